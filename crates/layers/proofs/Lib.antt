@@ -1,0 +1,3 @@
+mod Layered
+mod Reading
+mod Writes

@@ -1,0 +1,26 @@
+use borrow.Author.Needs.{needs}
+use native.Mathlib.Omega.{arith}
+use mathlib.Core.Path.{_≡_, refl, _∙_}
+use lib.IntN.{ℤ, pos, negsuc, natAbs, _*ℤ_, _+ℤ_}
+use lib.Signed.{_≤ℤ_}
+use mir.Syntax.{w64}
+use mir.Val.{SFits}
+use Rattle.std.proofs.shelf.Signed.{ints, toZ-ofZ}
+use Rattle.number.specs.Rounding.{floor, nearest}
+use Rattle.number.proofs.Words.{word}
+use Rattle.number.proofs.nearest_div.Needs as need
+
+doubled : (r x y a d : ℤ) → r ≡ floor x (natAbs y) → x ≡ pos 2 *ℤ a +ℤ d → y ≡ pos 2 *ℤ d → pos 1 ≤ℤ d → r ≡ nearest a (natAbs d)
+doubled r x y a (pos d) e ex ey one = rw (e, ex, ey) refl
+doubled r x y a (negsuc d) e ex ey one = absurd (one .le)
+
+pub returns : need.returns
+returns c =
+    let f : SFits w64 (c .floor-div .result) = search needs in
+    let a = c .args .a in
+    let d = c .args .d in
+    let x : ℤ = word (word (pos 2 *ℤ word a) +ℤ word d) in
+    let y : ℤ = word (pos 2 *ℤ word d) in
+    let ex : x ≡ pos 2 *ℤ a +ℤ d = omega (arith, ints) in
+    let ey : y ≡ pos 2 *ℤ d = omega (arith, ints) in
+    toZ-ofZ w64 (c .floor-div .result) f ∙ doubled (c .floor-div .result) x y a d (c .floor-div .ensures) ex ey (c .pre .least)

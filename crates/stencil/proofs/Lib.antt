@@ -1,0 +1,3 @@
+mod Sides
+mod Equations
+mod Rows

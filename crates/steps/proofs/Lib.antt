@@ -1,0 +1,5 @@
+mod Sizes
+mod Seeing
+mod Blending
+mod Turning
+pub mod Clearing
