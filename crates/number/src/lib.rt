@@ -13,6 +13,15 @@ pub fn floor_div(a: i64, d: i64) -> i64
     a.div_euclid(d)
 }
 
+// Twice a number and a half of 2 × d: what is rounded down to round to the nearest.
+fn half_up(a: i64, d: i64) -> i64
+    requires most { ⌜ natAbs d ≤ 1000000000 ⌝ }
+    requires small { ⌜ natAbs a ≤ 4000000000000000000 ⌝ }
+    ensures { λ r. ⌜ r ≡ pos 2 *ℤ a +ℤ d ⌝ }
+{
+    2 * a + d
+}
+
 // Rounded to the nearest, halves upward. For the crates above.
 pub fn nearest_div(a: i64, d: i64) -> i64
     requires least { ⌜ pos 1 ≤ℤ d ⌝ }
@@ -20,7 +29,7 @@ pub fn nearest_div(a: i64, d: i64) -> i64
     requires small { ⌜ natAbs a ≤ 4000000000000000000 ⌝ }
     ensures { λ r. ⌜ r ≡ nearest a (natAbs d) ⌝ }
 {
-    floor_div(2 * a + d, 2 * d)
+    floor_div(half_up(a, d), 2 * d)
 }
 
 // A weight times an entry. For the crates above.

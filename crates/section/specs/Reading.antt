@@ -1,5 +1,4 @@
 -- How plain rows read: a table's bad row as void, a grid's bad row as the widest bracket.
-use mathlib.Core.Path.{_≡_}
 use mathlib.Core.List.{List}
 use Prim.Native.Nat.{ℕ}
 use lib.IntN.{ℤ, pos, negsuc}

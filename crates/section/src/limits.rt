@@ -4,8 +4,8 @@ ghost use lib.IntN.{pos, negsuc};
 ghost use lib.Signed.{_≤ℤ_};
 ghost use Rattle.std.specs.Results.{Cases};
 ghost use Rattle.section.specs.Limits.{outside};
-use refusal::types::Refusal;
 use crate::types::HeldRecord;
+use refusal::types::Refusal;
 
 // The number at a position of a call, refused outside its limits.
 pub fn within(position: usize, number: i64, least: i64, most: i64) -> Result<(), Refusal>

@@ -7,12 +7,12 @@ ghost use Rattle.refusal.specs.Refusals.{clear, refuse, faultOf};
 ghost use Rattle.section.specs.Limits.{outside, shapeCheck, freeCheck, heldCheck, toleranceCheck, bracketCheck};
 use crate::limits::held_at;
 use crate::limits::within;
-use refusal::types::Refusal;
 use crate::types::Bracket;
 use crate::types::FreeRecord;
 use crate::types::HeldRecord;
 use crate::types::Shape;
 use crate::types::Tolerance;
+use refusal::types::Refusal;
 
 impl Shape {
     pub fn new(wide: i64, high: i64) -> Result<Shape, Refusal>

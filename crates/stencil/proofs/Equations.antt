@@ -1,5 +1,5 @@
 -- Four sides make the equation of a free cell.
-use mathlib.Core.Path.{_≡_, refl, sym, ap, subst, _∙_}
+use mathlib.Core.Path.{_≡_, sym, ap, subst}
 use mathlib.Core.Bool.{true}
 use mathlib.Core.List.{List, _++_}
 use Prim.Native.Nat.{ℕ, _+_, _-_, _*_}
@@ -7,9 +7,9 @@ use native.Mathlib.Omega.{arith}
 use lib.Dec.{T}
 use lib.IntN.{ℤ, pos, _+ℤ_, _*ℤ_}
 use borrow.Author.Differences.{ints}
-use Rattle.section.specs.Plan.{Plan, Cell, free, at, isFree, Free, Link, counted, hasNorth, hasWest, hasEast, linksOf, links, dot, dotN, weights, entry, mass, diag, heat, heatOf, lossOf, pull, load}
+use Rattle.section.specs.Plan.{Plan, Cell, free, at, isFree, Link, counted, hasNorth, hasWest, hasEast, linksOf, links, dot, dotN, weights, entry, mass, diag, heat, heatOf, lossOf, pull, load}
 use Rattle.section.proofs.Cells.{dot-append, dotN-append, weights-append}
-use Rattle.stencil.specs.Stencils.{SideOf, Equation, arms, armsN}
+use Rattle.stencil.specs.Stencils.{SideOf, Equation}
 use Rattle.stencil.specs.declared.side.Side.{Side}
 use Rattle.stencil.specs.declared.types.Stencil.{Stencil}
 

@@ -1,11 +1,11 @@
 -- The sides of a cell, by what lies there.
-use mathlib.Core.Path.{_≡_, refl, sym, ap, subst, _∙_}
+use mathlib.Core.Path.{_≡_, refl, sym, subst}
 use mathlib.Core.Bool.{Bool, true, false, cond}
-use mathlib.Core.List.{List, [], _∷_}
+use mathlib.Core.List.{List}
 use Prim.Native.Nat.{ℕ, _*_, _^_, _≤_, _<_}
 use native.Mathlib.Omega.{arith}
 use lib.Dec.{T}
-use lib.IntN.{ℤ, pos, negsuc, natAbs, _+ℤ_, _*ℤ_}
+use lib.IntN.{ℤ, pos, negsuc, natAbs, _*ℤ_}
 use lib.Signed.{_≤ℤ_}
 use mir.Syntax.{w64}
 use mir.Val.{toZ, ofZ}
@@ -14,7 +14,7 @@ use Rattle.std.proofs.shelf.Bits.{mul-le}
 use Rattle.std.specs.declared.option.Option.{Option}
 use Rattle.std.specs.declared.option.Option.the-variants.{Some, None}
 use Rattle.number.proofs.Words.{back}
-use Rattle.section.specs.Plan.{Plan, Cell, free, held, at, isFree, isSolid, Free, Link, counted, dot, dotN, weights, entry, mass}
+use Rattle.section.specs.Plan.{Plan, Cell, held, at, isFree, isSolid, Free, Link, counted}
 use Rattle.section.proofs.Cells.{entry-free, entry-held, mass-free, mass-held, counted-solid}
 use Rattle.stencil.specs.Stencils.{SideOf, toward}
 use Rattle.stencil.specs.declared.side.Side.{Side}

@@ -8,7 +8,6 @@ use lib.ListN.{length, getD}
 use Rattle.std.specs.declared.option.Option.{Option}
 use Rattle.std.specs.declared.option.Option.the-variants.{Some, None}
 use Rattle.section.specs.Plan.{Plan, size, Free, Link, counted, dot, dotN, weights, entry, mass, diag, pull, load}
-use Rattle.stencil.specs.declared.types.Arm.{Arm}
 use Rattle.stencil.specs.declared.types.Stencil.{Stencil}
 use Rattle.stencil.specs.declared.side.Side.{Side}
 

@@ -1,8 +1,9 @@
 ghost use mathlib.Core.Path.{_≡_};
-ghost use Prim.Native.Nat.{_≤_, _<_};
+ghost use Prim.Native.Nat.{_+_, _≤_, _<_};
 ghost use Rattle.std.specs.Of.Vec.{vec-cap, vec-items};
 ghost use Rattle.section.specs.Plan.{free, at, size};
 ghost use Rattle.stencil.specs.Stencils.{Equation, RowOf, Stands, OnPlan};
+use crate::side::Side;
 use crate::side::east;
 use crate::side::look_toward;
 use crate::side::north;
@@ -14,6 +15,14 @@ use number::sum_of_five;
 use section::types::FreeRecord;
 use section::types::Record;
 use section::types::Shape;
+
+// d: the loss and every link that counts, toward free and held cells alike.
+fn diagonal(loss: u16, north: Side, west: Side, east: Side, south: Side) -> u16
+    requires { ⌜ loss + north .counts + west .counts + east .counts + south .counts ≤ 5000 ⌝ }
+    ensures { λ r. ⌜ r ≡ loss + north .counts + west .counts + east .counts + south .counts ⌝ }
+{
+    loss + north.counts + west.counts + east.counts + south.counts
+}
 
 fn equation<G: Ground>(ground: &G, shape: Shape, index: usize, own: FreeRecord) -> Stencil
     requires on { ⌜ OnPlan (plan (now ground)) index ⌝ }
@@ -30,7 +39,7 @@ fn equation<G: Ground>(ground: &G, shape: Shape, index: usize, own: FreeRecord) 
         west: w.arm,
         east: e.arm,
         south: s.arm,
-        diagonal: own.loss + n.counts + w.counts + e.counts + s.counts,
+        diagonal: diagonal(own.loss, n, w, e, s),
         source: sum_of_five(own.heat, n.given, w.given, e.given, s.given),
     }
 }

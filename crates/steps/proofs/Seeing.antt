@@ -1,10 +1,10 @@
 -- The steps at a site are those of the plan that it shows.
-use mathlib.Core.Path.{_≡_, sym, ap, _∙_}
+use mathlib.Core.Path.{_≡_}
 use mathlib.Core.List.{List}
 use Prim.Native.Nat.{ℕ}
 use lib.IntN.{ℤ, pos, natAbs}
-use Rattle.section.specs.Plan.{Plan, diag, pull, load}
-use Rattle.section.specs.Reading.{temperatures, majorants}
+use Rattle.section.specs.Plan.{Plan, pull, load}
+use Rattle.section.specs.Reading.{temperatures}
 use Rattle.section.specs.declared.rows.Temperature.{Temperature}
 use Rattle.section.specs.declared.rows.Majorant.{Majorant}
 use Rattle.walk.specs.Sites.{Sees}

@@ -1,15 +1,11 @@
 -- The turn that relaxing takes, from its parts.
-use mathlib.Core.Path.{_≡_, refl, sym, _∙_}
-use mathlib.Core.Bool.{Bool, true, false, cond}
+use mathlib.Core.Path.{_≡_, sym, _∙_}
+use mathlib.Core.Bool.{true, false}
 use Prim.Native.Nat.{ℕ}
 use native.Mathlib.Omega.{arith}
-use lib.Dec.{eqb}
 use lib.IntN.{ℤ}
-use lib.Signed.{ltZ}
 use Rattle.std.proofs.shelf.Signed.{ints}
 use Rattle.std.proofs.shelf.Tests.{eq-eqb, ne-eqb}
-use Rattle.section.specs.declared.rows.Temperature.{Temperature}
-use Rattle.walk.specs.declared.types.Turn.{Turn}
 use Rattle.walk.specs.declared.types.Turn.the-variants.{Stay, Put}
 use Rattle.steps.specs.Steps.{same, relaxedTo, relaxTurn}
 

@@ -1,6 +1,6 @@
 ghost use mathlib.Core.Path.{_≡_};
 ghost use lib.ListN.{length};
-ghost use Rattle.section.specs.Plan.{Plan, size};
+ghost use Rattle.section.specs.Plan.{Plan};
 ghost use Rattle.stencil.specs.Stencils.{Stands};
 ghost use Rattle.walk.specs.Sites.{Walkable};
 ghost use Rattle.steps.specs.Steps.{cleared, FairMajorant};

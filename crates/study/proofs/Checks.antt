@@ -1,14 +1,14 @@
 -- The checks before a run, one by one.
 use mathlib.Core.Path.{_≡_, refl, sym, ap}
-use mathlib.Core.Bool.{Bool, true, false, not}
-use mathlib.Core.List.{List, [], _∷_}
+use mathlib.Core.Bool.{true, false}
+use mathlib.Core.List.{List}
 use Prim.Native.Nat.{ℕ}
 use lib.Dec.{eqb}
 use lib.IntN.{ℤ, pos, natAbs}
 use lib.ListN.{length}
 use Rattle.std.proofs.shelf.Tests.{eq-eqb, ne-eqb}
 use Rattle.section.specs.Plan.{Plan, size}
-use Rattle.section.specs.Limits.{outside, Number, number, numbers}
+use Rattle.section.specs.Limits.{outside, number}
 use Rattle.refusal.specs.Refusals.{Fault, fault, Check, clear, refuse, _then_, at-first, answer, accepted, refused, unless-refused}
 use Rattle.refusal.specs.declared.types.Level.the-variants.{Call}
 use Rattle.section.specs.declared.rows.Temperature.{Temperature}

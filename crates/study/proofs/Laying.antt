@@ -1,6 +1,6 @@
 -- Checks over the rows of a table are checks over the plan that it stands for.
 use mathlib.Core.Path.{_≡_, refl, sym, ap, subst, _∙_}
-use mathlib.Core.Bool.{Bool, true, false, cond, _&&_, _||_}
+use mathlib.Core.Bool.{Bool, true, false, _&&_}
 use mathlib.Core.List.{List}
 use Prim.Native.Nat.{ℕ, _*_, _<_, _≤_}
 use native.Mathlib.Nat.{mul-comm}
@@ -8,13 +8,13 @@ use native.Mathlib.Omega.{arith}
 use lib.Dec.{T}
 use lib.IntN.{ℤ, pos, negsuc}
 use lib.ListN.{length, getD}
-use lib.Signed.{_≤ℤ_, ltZ}
+use lib.Signed.{_≤ℤ_}
 use Rattle.std.proofs.shelf.Lists.{getD-default}
 use Rattle.std.proofs.shelf.Signed.{ints}
 use Rattle.std.specs.Options.{isSome}
 use Rattle.std.specs.declared.option.Option.{Option}
 use Rattle.std.specs.declared.option.Option.the-variants.{Some, None}
-use Rattle.section.specs.Plan.{Plan, size, isFreeAt, Free}
+use Rattle.section.specs.Plan.{Plan, size, isFreeAt}
 use Rattle.section.specs.Limits.{outside}
 use Rattle.section.specs.Reading.{temperatures}
 use Rattle.section.specs.declared.rows.Temperature.{Temperature}
@@ -22,7 +22,7 @@ use Rattle.section.specs.declared.types.Shape.{Shape}
 use Rattle.section.proofs.Cells.{free-inside}
 use Rattle.scan.specs.First.{first}
 use Rattle.scan.proofs.Firsts.{first-same, first-none}
-use Rattle.stencil.specs.Stencils.{Equation, RowOf, Stands}
+use Rattle.stencil.specs.Stencils.{RowOf, Stands}
 use Rattle.stencil.specs.declared.types.Stencil.{Stencil}
 use Rattle.walk.specs.Sites.{Walkable}
 use Rattle.walk.specs.Walks.{ranAs}

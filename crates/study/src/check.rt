@@ -1,6 +1,5 @@
-ghost use mathlib.Core.Path.{_≡_};
 ghost use mathlib.Core.Bool.{_&&_};
-ghost use Prim.Native.Nat.{ℕ, _<_};
+ghost use Prim.Native.Nat.{_<_};
 ghost use denote.Ref.{now};
 ghost use lib.ListN.{length, getD};
 ghost use lib.IntN.{pos, negsuc};

@@ -1,7 +1,6 @@
 ghost use mathlib.Core.Path.{_≡_};
-ghost use Prim.Native.Nat.{ℕ, _<_, _≤_, _*_};
+ghost use Prim.Native.Nat.{_<_};
 ghost use lib.ListN.{length};
-ghost use lib.IntN.{pos};
 ghost use Rattle.section.specs.Plan.{Plan, size};
 ghost use Rattle.refusal.specs.Refusals.{answerOf, answer, unless-refused, at-first, fault};
 ghost use Rattle.refusal.specs.declared.types.Level.the-variants.{Call};
@@ -11,8 +10,8 @@ ghost use Rattle.steps.specs.Steps.{relaxRun, countsOf};
 ghost use Rattle.study.specs.Calls.{tooHot, Laid};
 use crate::check::Proposed;
 use crate::check::ProposedCheck;
-use scan::first_failing;
 use refusal::types::Refusal;
+use scan::first_failing;
 use section::rows::Temperature;
 use section::types::Shape;
 use stencil::types::Stencil;

@@ -1,10 +1,9 @@
 -- One cell of a walk.
 use mathlib.Core.Path.{_≡_, refl, sym, ap, subst, _∙_}
-use mathlib.Core.Bool.{Bool, true, false, cond}
-use mathlib.Core.List.{List, [], _∷_}
-use mathlib.Core.Logic.{_⊎_, inl, inr}
+use mathlib.Core.Bool.{Bool, true, false}
+use mathlib.Core.List.{List}
 use Prim.Native.Nat.{ℕ, zero, suc, _+_, _≤_, _<_}
-use native.Mathlib.Decide.{decLe, ℕ-discrete}
+use native.Mathlib.Decide.{ℕ-discrete}
 use native.Mathlib.Omega.{arith}
 use native.Mathlib.Numerals.{add-one}
 use lib.Dec.{T}
@@ -17,11 +16,11 @@ use Rattle.section.specs.Plan.{Plan, size, isFreeAt, Free}
 use Rattle.section.proofs.Cells.{free-inside}
 use Rattle.stencil.specs.Stencils.{Equation, RowOf, Stands}
 use Rattle.stencil.specs.declared.types.Stencil.{Stencil}
-use Rattle.walk.specs.Sites.{Shows, Sees, FairSite, Keeps, Walkable}
+use Rattle.walk.specs.Sites.{Shows, Sees, FairSite, Walkable}
 use Rattle.walk.specs.Walks.{Walk, turned, visited, walk}
 use Rattle.walk.specs.declared.types.Site.{Site}
 use Rattle.walk.specs.declared.types.Turn.{Turn}
-use Rattle.walk.specs.declared.types.Turn.the-variants.{Stay, Put, Stop}
+use Rattle.walk.specs.declared.types.Turn.the-variants.{Stop}
 
 -- an element that was read is the element at any default
 pub read : {E : Type 0} (xs : List E) (i : ℕ) (x d : E) → i < length xs → x ≡ getD xs i x → x ≡ getD xs i d

@@ -17,10 +17,11 @@ doubled r x y a (negsuc d) e ex ey one = absurd (one .le)
 pub returns : need.returns
 returns c =
     let f : SFits w64 (c .floor-div .result) = search needs in
+    let x : SFits w64 (c .half-up .result) = search needs in
+    let fa = c .fits .a in
+    let fd = c .fits .d in
     let a = c .args .a in
     let d = c .args .d in
-    let x : ℤ = word (word (pos 2 *ℤ word a) +ℤ word d) in
-    let y : ℤ = word (pos 2 *ℤ word d) in
-    let ex : x ≡ pos 2 *ℤ a +ℤ d = omega (arith, ints) in
-    let ey : y ≡ pos 2 *ℤ d = omega (arith, ints) in
-    toZ-ofZ w64 (c .floor-div .result) f ∙ doubled (c .floor-div .result) x y a d (c .floor-div .ensures) ex ey (c .pre .least)
+    let ex : word (c .half-up .result) ≡ pos 2 *ℤ a +ℤ d = toZ-ofZ w64 (c .half-up .result) x ∙ simp toZ-ofZ at (c .half-up .ensures) in
+    let ey : word (pos 2 *ℤ word d) ≡ pos 2 *ℤ d = omega (arith, ints) in
+    toZ-ofZ w64 (c .floor-div .result) f ∙ doubled (c .floor-div .result) (word (c .half-up .result)) (word (pos 2 *ℤ word d)) a d (c .floor-div .ensures) ex ey (c .pre .least)

@@ -1,7 +1,6 @@
-use native.Mathlib.Omega.{arith}
 use native.Mathlib.Nat.{add-assoc}
-use mathlib.Core.Path.{_≡_, sym, ap, _∙_}
-use Prim.Native.Nat.{ℕ, _+_, _*_}
+use mathlib.Core.Path.{sym, _∙_}
+use Prim.Native.Nat.{_+_, _*_}
 use Rattle.scan.proofs.Firsts.{first-past, first-found, within}
 use Rattle.scan.proofs.first_failing.Needs as need
 

@@ -1,4 +1,4 @@
-use mathlib.Core.Path.{sym, ap, _∙_}
+use mathlib.Core.Path.{sym, ap}
 use Rattle.refusal.specs.Refusals.{tableCause}
 use Rattle.refusal.proofs.told.table_cause.Needs as need
 

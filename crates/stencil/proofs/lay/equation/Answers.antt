@@ -91,4 +91,4 @@ pub returns : need.returns
 returns g c =
     equation-is (p g c) (i g c) (c .args .own .north) (c .args .own .west) (c .args .own .east) (c .args .own .south) (c .args .own .loss) (c .args .own .heat) (c .pre .here)
     (c .look-toward-n .result) (c .look-toward-w .result) (c .look-toward-e .result) (c .look-toward-s .result)
-    (north-side g c) (west-side g c) (east-side g c) (south-side g c) _ refl refl refl refl refl (source-is g c)
+    (north-side g c) (west-side g c) (east-side g c) (south-side g c) _ refl refl refl refl (c .diagonal .ensures) (source-is g c)

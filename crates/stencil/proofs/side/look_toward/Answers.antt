@@ -10,7 +10,6 @@ use lib.Dec.{T}
 use lib.IntN.{pos}
 use Rattle.number.proofs.Words.{back}
 use Rattle.stencil.specs.Stencils.{SideOf, toward}
-use Rattle.stencil.specs.declared.side.Side.{Side}
 use Rattle.stencil.proofs.Sides.{side-free, side-held, small-back, temperature-abs, given-small}
 use Rattle.stencil.proofs.side.look_toward.Needs as need
 

@@ -1,5 +1,5 @@
 use native.Mathlib.Omega.{arith}
-use mathlib.Core.Path.{_≡_, refl}
+use mathlib.Core.Path.{refl}
 use Prim.Native.Nat.{_*_, _≤_}
 use Rattle.steps.proofs.Sizes.{load-size}
 use Rattle.steps.proofs.sums.load.Needs as need

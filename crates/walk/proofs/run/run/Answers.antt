@@ -1,4 +1,3 @@
-use native.Mathlib.Omega.{arith}
 use mathlib.Core.Path.{sym}
 use Rattle.walk.specs.Walks.{walkedAs}
 use Rattle.walk.proofs.Running.{run-on, run-stopped, run-settled}

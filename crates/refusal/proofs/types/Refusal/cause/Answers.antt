@@ -14,12 +14,6 @@ returns-in-OutsideLimits c = sym (ap causeOf (c .in-OutsideLimits .is))
 pub returns-in-GridLength : need.returns-in-GridLength
 returns-in-GridLength c = sym (ap causeOf (c .in-GridLength .is))
 
-pub returns-in-NotProved : need.returns-in-NotProved
-returns-in-NotProved c = sym (ap causeOf (c .in-NotProved .is))
-
-pub returns-in-Crossed : need.returns-in-Crossed
-returns-in-Crossed c = sym (ap causeOf (c .in-Crossed .is))
-
 pub returns-in-Temperature : need.returns-in-Temperature
 returns-in-Temperature c = sym (ap causeOf (c .in-Temperature .is))
 
@@ -28,9 +22,6 @@ returns-in-Majorant c = sym (ap causeOf (c .in-Majorant .is))
 
 pub returns-in-Margin : need.returns-in-Margin
 returns-in-Margin c = sym (ap causeOf (c .in-Margin .is))
-
-pub returns-in-Spread : need.returns-in-Spread
-returns-in-Spread c = sym (ap causeOf (c .in-Spread .is))
 
 pub returns-in-Table : need.returns-in-Table
 returns-in-Table c = c .table-cause .ensures ∙ sym (ap causeOf (c .in-Table .is))

@@ -1,9 +1,7 @@
-use mathlib.Core.Path.{_≡_, sym, _∙_}
-use mir.Syntax.{w64}
+use mathlib.Core.Path.{sym, _∙_}
 use Rattle.std.proofs.shelf.Results.{err-from-errBy}
 use Rattle.std.proofs.shelf.Signed.{toZ-ofZ}
 use Rattle.layers.specs.Layers.{pinPlan}
-use Rattle.section.specs.Plan.{Plan, size}
 use Rattle.section.proofs.Cells.{shape-size}
 use Rattle.study.proofs.Checks.{wrong-length, wrong-number, wrong-walks, all-right}
 use Rattle.study.proofs.types.Study.ready.Needs as need

@@ -1,12 +1,8 @@
-use mathlib.Core.Path.{_≡_, refl, sym, ap, subst, _∙_}
-use mathlib.Core.List.{List}
-use lib.ListN.{length}
+use mathlib.Core.Path.{refl, sym, subst, _∙_}
 use Rattle.std.proofs.shelf.Results.{err-from-errBy}
 use Rattle.std.proofs.shelf.Signed.{toZ-ofZ}
-use Rattle.std.specs.declared.option.Option.{Option}
 use Rattle.refusal.specs.Refusals.{faultOf}
 use Rattle.stencil.specs.Stencils.{Stands}
-use Rattle.stencil.specs.declared.types.Stencil.{Stencil}
 use Rattle.layers.specs.Layers.{pinPlan}
 use Rattle.study.proofs.Checks.{relax-refused, relax-begins}
 use Rattle.study.proofs.types.Study.relax.Needs as need
