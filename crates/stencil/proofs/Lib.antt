@@ -1,3 +1,4 @@
 mod Sides
 mod Equations
 mod Rows
+mod Keeping

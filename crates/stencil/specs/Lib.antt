@@ -1,1 +1,2 @@
 pub mod Stencils
+pub mod Keeping

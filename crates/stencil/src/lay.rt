@@ -3,6 +3,9 @@ ghost use Prim.Native.Nat.{_+_, _≤_, _<_};
 ghost use Rattle.std.specs.Of.Vec.{vec-cap, vec-items};
 ghost use Rattle.section.specs.Plan.{free, at, size};
 ghost use Rattle.stencil.specs.Stencils.{Equation, RowOf, Stands, OnPlan};
+use crate::kept::Kept;
+use crate::kept::KeptGround;
+use crate::kept::keep;
 use crate::side::Side;
 use crate::side::east;
 use crate::side::look_toward;
@@ -57,9 +60,7 @@ fn row<G: Ground>(ground: &G, shape: Shape, index: usize) -> Option<Stencil>
     }
 }
 
-// Lays the equations of the ground out, one row for each cell, in room that is there already.
-// For the crates above.
-pub fn lay<G: Ground>(ground: &G, rows: &mut Vec<Option<Stencil>>)
+fn lay_rows<G: Ground>(ground: &G, rows: &mut Vec<Option<Stencil>>)
     requires { ⌜ 4096 ≤ vec-cap (now rows) ⌝ }
     ensures stands { λ _. ⌜ Stands (plan (now (ground .entry))) (vec-items (now (rows .exit))) ⌝ }
     ensures capacity { λ _. ⌜ vec-cap (now (rows .exit)) ≡ vec-cap (now (rows .entry)) ⌝ }
@@ -69,4 +70,19 @@ pub fn lay<G: Ground>(ground: &G, rows: &mut Vec<Option<Stencil>>)
     for index in 0..shape.cells() {
         rows.push_reserved(row(ground, shape, index));
     }
+}
+
+// Lays the equations of the ground out, one row for each cell, in room that is there already.
+// For the crates above.
+pub fn lay<G: Ground>(ground: &G, records: &mut Vec<Record>, rows: &mut Vec<Option<Stencil>>)
+    requires kept { ⌜ 4096 ≤ vec-cap (now records) ⌝ }
+    requires laid { ⌜ 4096 ≤ vec-cap (now rows) ⌝ }
+    ensures stands { λ _. ⌜ Stands (plan (now (ground .entry))) (vec-items (now (rows .exit))) ⌝ }
+    ensures kept { λ _. ⌜ vec-cap (now (records .exit)) ≡ vec-cap (now (records .entry)) ⌝ }
+    ensures laid { λ _. ⌜ vec-cap (now (rows .exit)) ≡ vec-cap (now (rows .entry)) ⌝ }
+{
+    keep(ground, records);
+    let shape = ground.shape();
+    let records = records.as_slice();
+    lay_rows(&Kept { shape, records }, rows);
 }

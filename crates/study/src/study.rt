@@ -37,6 +37,9 @@ impl<G: Ground> Study<G> {
     pub fn new(heap: Global, ground: G, tolerance: Tolerance) -> Result<Study<G>, Refused<G>>
         ensures { λ r. ⌜ Cases r (λ s. Fresh s ground tolerance × (s .«open» ≡ freeCount (pinPlan (s .layer .pins .places) (plan ground)))) (λ e. e .value ≡ ground) ⌝ }
     {
+        let Ok(records) = Vec::with_capacity(heap, 4096) else {
+            return Err(Refused { value: ground });
+        };
         let Ok(rows) = Vec::with_capacity(heap, 4096) else {
             return Err(Refused { value: ground });
         };
@@ -47,6 +50,7 @@ impl<G: Ground> Study<G> {
             tolerance,
             state: State::Unproved,
             open,
+            records,
             rows,
         })
     }
@@ -94,7 +98,7 @@ impl<G: Ground> Study<G> {
         ensures stands { λ _. ⌜ Stands (pinPlan (now (self .entry) .layer .pins .places) (plan (now (self .entry) .layer .below))) (vec-items (now (self .exit) .rows)) ⌝ }
         ensures same { λ _. ⌜ Same (now (self .entry)) (now (self .exit)) ⌝ }
     {
-        lay(&self.layer, &mut self.rows);
+        lay(&self.layer, &mut self.records, &mut self.rows);
     }
 
     // Relaxes proposed temperatures by a factor in hundredths. Answers the walks begun and the cells

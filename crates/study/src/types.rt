@@ -1,6 +1,7 @@
 ghost use Prim.Native.Nat.{_≤_};
 ghost use Rattle.std.specs.Of.Vec.{vec-cap};
 use layers::layer::PinLayer;
+use section::types::Record;
 use section::types::Tolerance;
 use stencil::types::Stencil;
 
@@ -11,14 +12,16 @@ pub enum State {
     Proved,
 }
 
-// The ground below its pins is the study's own: nothing here leads to it. `rows` is room for the
-// equations, which each call that walks lays out anew.
+// The ground below its pins is the study's own: nothing here leads to it. `records` and `rows` are
+// room for the equations, which each call that walks lays out anew.
 #[derive(Drop)]
 pub struct Study<G> {
     pub(crate) layer: PinLayer<G>,
     pub(crate) tolerance: Tolerance,
     pub(crate) state: State,
     pub(crate) open: usize,
+    pub(crate) records: Vec<Record>,
     pub(crate) rows: Vec<Option<Stencil>>,
-    ghost room: { 4096 ≤ vec-cap rows },
+    ghost record_room: { 4096 ≤ vec-cap records },
+    ghost row_room: { 4096 ≤ vec-cap rows },
 }

@@ -4,7 +4,7 @@ use lib.ListN.{getD}
 use Rattle.std.specs.Of.Vec.{vec-cap, vec-items, vec-len}
 use Rattle.std.specs.declared.option.Option.the-variants.{None}
 use Rattle.stencil.specs.Stencils.{RowOf}
-use Rattle.stencil.proofs.lay.lay.Given as given
+use Rattle.stencil.proofs.lay.lay_rows.Given as given
 
 abbrev pub Inv-loop-index : given.InvT-loop-index
 Inv-loop-index g l =
