@@ -10,12 +10,12 @@ doubled r x y a (negsuc d) e ex ey one = absurd one.le
 
 pub returns : goal.returns
 returns c =
-    let f : SFits w64 c.floor-div.result = search rules in
-    let x : SFits w64 c.half-up.result = search rules in
+    let f : SFits w64 c.floor_div.result = search rules in
+    let x : SFits w64 c.half_up.result = search rules in
     let fa = c.ranges.a in
     let fd = c.ranges.d in
     let a = c.args.a in
     let d = c.args.d in
-    let ex : word c.half-up.result ≡ pos 2 *ℤ a +ℤ d = to_z-of_z w64 c.half-up.result x ∙ simp to_z-of_z at c.half-up.ensures in
+    let ex : word c.half_up.result ≡ pos 2 *ℤ a +ℤ d = to_z-of_z w64 c.half_up.result x ∙ simp to_z-of_z at c.half_up.ensures in
     let ey : word (pos 2 *ℤ word d) ≡ pos 2 *ℤ d = omega (arith, ints) in
-    to_z-of_z w64 c.floor-div.result f ∙ doubled c.floor-div.result (word c.half-up.result) (word (pos 2 *ℤ word d)) a d c.floor-div.ensures ex ey c.requires.least
+    to_z-of_z w64 c.floor_div.result f ∙ doubled c.floor_div.result (word c.half_up.result) (word (pos 2 *ℤ word d)) a d c.floor_div.ensures ex ey c.requires.least

@@ -40,17 +40,17 @@ module _ (a b c d e : ℤ) (few : nat_abs a + (nat_abs b + (nat_abs c + (nat_abs
   fits5 : SFits w64 (word a +ℤ word (word b +ℤ word (word c +ℤ word (word d +ℤ word e))))
   fits5 = sum_fits a (word b +ℤ word (word c +ℤ word (word d +ℤ word e))) a (b +ℤ (c +ℤ (d +ℤ e))) (back a (omega arith)) sum4 (omega (arith, size4))
 
-pub overflow-add-result : goal.overflow-add-result
-overflow-add-result c = fits2 c.args.a c.args.b c.args.c c.args.d c.args.e c.requires
+pub overflow_add-result : goal.overflow_add-result
+overflow_add-result c = fits2 c.args.a c.args.b c.args.c c.args.d c.args.e c.requires
 
-pub overflow-add-result-2 : goal.overflow-add-result-2
-overflow-add-result-2 c = fits3 c.args.a c.args.b c.args.c c.args.d c.args.e c.requires
+pub overflow_add-result-2 : goal.overflow_add-result-2
+overflow_add-result-2 c = fits3 c.args.a c.args.b c.args.c c.args.d c.args.e c.requires
 
-pub overflow-add-result-3 : goal.overflow-add-result-3
-overflow-add-result-3 c = fits4 c.args.a c.args.b c.args.c c.args.d c.args.e c.requires
+pub overflow_add-result-3 : goal.overflow_add-result-3
+overflow_add-result-3 c = fits4 c.args.a c.args.b c.args.c c.args.d c.args.e c.requires
 
-pub overflow-add-result-4 : goal.overflow-add-result-4
-overflow-add-result-4 c = fits5 c.args.a c.args.b c.args.c c.args.d c.args.e c.requires
+pub overflow_add-result-4 : goal.overflow_add-result-4
+overflow_add-result-4 c = fits5 c.args.a c.args.b c.args.c c.args.d c.args.e c.requires
 
 pub returns : goal.returns
 returns c =

@@ -14,8 +14,8 @@ module _ (c : goal.After-from) where
   entry_is : word c.args.entry ≡ c.args.entry
   entry_is = to_z-of_z w64 c.args.entry c.ranges.entry
 
-pub overflow-mul-result : goal.overflow-mul-result
-overflow-mul-result c = product_fits c.from.result c.args.entry (pos c.args.weight) c.args.entry (weight_is c) (entry_is c) (size c)
+pub overflow_mul-result : goal.overflow_mul-result
+overflow_mul-result c = product_fits c.from.result c.args.entry (pos c.args.weight) c.args.entry (weight_is c) (entry_is c) (size c)
 
 pub returns : goal.returns
 returns c =

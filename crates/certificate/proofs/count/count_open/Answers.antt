@@ -2,10 +2,10 @@ use Rattle.std.proofs.Common.{◌≡◌, true, false, length, None, sym, ◌∙�
 use Rattle.walk.proofs.Walking.{read}
 use Rattle.certificate.proofs.Counts.{count_none, count-some, whole-count}
 use Rattle.certificate.proofs.count.count_open.Goals as goal
-use Rattle.certificate.proofs.count.count_open.Goals.{in-None, in-Some+then-is-open, in-Some+else-is-open}
+use Rattle.certificate.proofs.count.count_open.Goals.{in-None, in-Some+then-is_open, in-Some+else-is_open}
 
-pub overflow-add-open : goal.overflow-add-open
-overflow-add-open c = omega (arith, c.loop-index.invariant.0)
+pub overflow_add-open : goal.overflow_add-open
+overflow_add-open c = omega (arith, c.loop-index.invariant.0)
 
 pub loop-index-preserved : goal.loop-index-preserved
 loop-index-preserved c =
@@ -19,8 +19,8 @@ loop-index-preserved c =
     let row = read rows i c.index-rows-index.result None lt c.index-rows-index.is in
     elim c.match-row.branch [
       | in-None w ↦ rw w.open-is (omega (arith, few), λ p st. count_none p rows t grid i n st lt (c.loop-index.invariant.1 p st) (sym row ∙ w.in-None.is))
-      | in-Some+then-is-open w ↦ rw w.open-is (omega (arith, few), λ p st. count-some p rows t grid i n st lt (c.loop-index.invariant.1 p st) w.in-Some.field-0 true _ c.requires (sym row ∙ w.in-Some.is) w.if-is-open.ensures)
-      | in-Some+else-is-open w ↦ rw w.open-is (omega (arith, few), λ p st. count-some p rows t grid i n st lt (c.loop-index.invariant.1 p st) w.in-Some.field-0 false _ c.requires (sym row ∙ w.in-Some.is) w.if-is-open.ensures)
+      | in-Some+then-is_open w ↦ rw w.open-is (omega (arith, few), λ p st. count-some p rows t grid i n st lt (c.loop-index.invariant.1 p st) w.in-Some.field-0 true _ c.requires (sym row ∙ w.in-Some.is) w.if-is_open.ensures)
+      | in-Some+else-is_open w ↦ rw w.open-is (omega (arith, few), λ p st. count-some p rows t grid i n st lt (c.loop-index.invariant.1 p st) w.in-Some.field-0 false _ c.requires (sym row ∙ w.in-Some.is) w.if-is_open.ensures)
     ]
 
 pub returns : goal.returns

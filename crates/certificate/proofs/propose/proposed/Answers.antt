@@ -6,22 +6,22 @@ use Rattle.certificate.proofs.Clears.{mild_walkable, fair_walkable}
 use Rattle.certificate.proofs.Passing.{useful-of, certifiable-of}
 use Rattle.certificate.proofs.propose.proposed.Goals as goal
 
-pub margins-enough-requires : goal.margins-enough-requires
-margins-enough-requires c =
+pub margins_enough-requires : goal.margins_enough-requires
+margins_enough-requires c =
     let l = c.requires.majorant in
-    record { laid = l; fair = fair_walkable c.args.shape c.args.rows.now c.args.majorant.now l (sym (c.in-ok-majorant-fair.ensures l.plan l.stands)) }
+    record { laid = l; fair = fair_walkable c.args.shape c.args.rows.now c.args.majorant.now l (sym (c.in_ok-majorant_fair.ensures l.plan l.stands)) }
 
 pub measured-measure-requires : goal.measured-measure-requires
 measured-measure-requires c =
     let l = c.requires.majorant in
     let t = c.requires.temperatures in
     record {
-      mild = mild_walkable c.args.shape c.args.rows.now c.args.temperatures.now t (sym (c.in-ok-temperatures-fair.ensures t.plan t.stands));
-      fair = fair_walkable c.args.shape c.args.rows.now c.args.majorant.now l (sym (c.in-ok-majorant-fair.ensures l.plan l.stands));
+      mild = mild_walkable c.args.shape c.args.rows.now c.args.temperatures.now t (sym (c.in_ok-temperatures_fair.ensures t.plan t.stands));
+      fair = fair_walkable c.args.shape c.args.rows.now c.args.majorant.now l (sym (c.in_ok-majorant_fair.ensures l.plan l.stands));
     }
 
-pub spreads-near-requires : goal.spreads-near-requires
-spreads-near-requires c =
+pub spreads_near-requires : goal.spreads_near-requires
+spreads_near-requires c =
     let rows = c.args.rows.now in
     let us = c.args.temperatures.now in
     let ws = c.args.majorant.now in
@@ -31,8 +31,8 @@ spreads-near-requires c =
     let of : MeasureOf p us ws m = record { rest_is = c.measured-measure.ensures.rest p l.stands; margin_is = c.measured-measure.ensures.margin p l.stands } in
     record {
       laid = l;
-      fair = fair_walkable c.args.shape rows ws l (sym (c.in-ok-majorant-fair.ensures p l.stands));
-      some = useful-of p rows us ws m l.stands of (sym (c.in-ok-margins-enough.ensures p l.stands));
+      fair = fair_walkable c.args.shape rows ws l (sym (c.in_ok-majorant_fair.ensures p l.stands));
+      some = useful-of p rows us ws m l.stands of (sym (c.in_ok-margins_enough.ensures p l.stands));
     }
 
 pub returns : goal.returns
@@ -46,9 +46,9 @@ returns c =
     let of : (p : Plan) → Stands p rows → MeasureOf p us ws m = λ p st. record { rest_is = c.measured-measure.ensures.rest p st; margin_is = c.measured-measure.ensures.margin p st } in
     record {
       certifiable = certifiable-of l.plan rows us ws m l.stands (of l.plan l.stands)
-          (mild_walkable c.args.shape rows us t (sym (c.in-ok-temperatures-fair.ensures t.plan t.stands)))
-          (fair_walkable c.args.shape rows ws l (sym (c.in-ok-majorant-fair.ensures l.plan l.stands)))
-          (sym (c.in-ok-margins-enough.ensures l.plan l.stands)) (sym (c.in-ok-spreads-near.ensures l.plan us l.stands (of l.plan l.stands)));
+          (mild_walkable c.args.shape rows us t (sym (c.in_ok-temperatures_fair.ensures t.plan t.stands)))
+          (fair_walkable c.args.shape rows ws l (sym (c.in_ok-majorant_fair.ensures l.plan l.stands)))
+          (sym (c.in_ok-margins_enough.ensures l.plan l.stands)) (sym (c.in_ok-spreads_near.ensures l.plan us l.stands (of l.plan l.stands)));
       measure_of = of;
-      clears = λ p st. rw (sym (c.in-ok-temperatures-fair.ensures p st), sym (c.in-ok-majorant-fair.ensures p st), sym (c.in-ok-margins-enough.ensures p st), sym (c.in-ok-spreads-near.ensures p us st (of p st))) refl;
+      clears = λ p st. rw (sym (c.in_ok-temperatures_fair.ensures p st), sym (c.in_ok-majorant_fair.ensures p st), sym (c.in_ok-margins_enough.ensures p st), sym (c.in_ok-spreads_near.ensures p us st (of p st))) refl;
     }

@@ -5,8 +5,8 @@ use Rattle.certificate.proofs.Laying.{laid-inside}
 use Rattle.certificate.proofs.Finding.{first-wide}
 use Rattle.certificate.proofs.propose.spreads_near.Goals as goal
 
-pub first-failing-requires : goal.first-failing-requires
-first-failing-requires c = λ k h. ((laid-inside c.args.shape c.args.rows.now (length c.args.grid.now) c.requires.laid k h).0, c.requires.fair, c.requires.some)
+pub first_failing-requires : goal.first_failing-requires
+first_failing-requires c = λ k h. ((laid-inside c.args.shape c.args.rows.now (length c.args.grid.now) c.requires.laid k h).0, c.requires.fair, c.requires.some)
 
 pub returns-in-Some : goal.returns-in-Some
 returns-in-Some c = λ p us st of. ap (λ o. at_first o (fault Call 13)) (c.in-Some.ensures ∙ first-wide p c.args.shape c.args.rows.now us c.args.grid.now c.args.measure c.requires.laid st of)

@@ -5,8 +5,8 @@ use Rattle.certificate.proofs.Finding.{first-hot}
 use Rattle.certificate.proofs.Laying.{laid-inside}
 use Rattle.certificate.proofs.propose.temperatures_fair.Goals as goal
 
-pub first-failing-requires : goal.first-failing-requires
-first-failing-requires c = laid-inside c.args.shape c.args.rows.now (length c.args.grid.now) c.requires
+pub first_failing-requires : goal.first_failing-requires
+first_failing-requires c = laid-inside c.args.shape c.args.rows.now (length c.args.grid.now) c.requires
 
 pub returns-in-Some : goal.returns-in-Some
 returns-in-Some c = λ p st. ap (λ o. at_first o (fault Call 10)) (c.in-Some.ensures ∙ first-hot p c.args.shape c.args.rows.now c.args.grid.now c.requires st)

@@ -5,11 +5,11 @@ use Rattle.measure.proofs.at.cell_margin.Goals as goal
 few : (c : goal.After-height-5) → c.from.result ≤ 5000
 few c = rw c.from.ensures c.args.site.now.stencil.diagonal_most
 
-pub overflow-cast-result : goal.overflow-cast-result
-overflow-cast-result c = own-fits c.from.result c.height-5.result (few c) c.height-5.ensures.most
+pub overflow_cast-result : goal.overflow_cast-result
+overflow_cast-result c = own-fits c.from.result c.height-5.result (few c) c.height-5.ensures.most
 
-pub overflow-sub-result : goal.overflow-sub-result
-overflow-sub-result c = gap-fits c.from.result c.height-5.result (few c) c.height-5.ensures.most c.load-sum.result c.load-sum.ensures.size
+pub overflow_sub-result : goal.overflow_sub-result
+overflow_sub-result c = gap-fits c.from.result c.height-5.result (few c) c.height-5.ensures.most c.load-sum.result c.load-sum.ensures.size
 
 pub returns : goal.returns
 returns c = record {

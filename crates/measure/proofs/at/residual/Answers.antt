@@ -3,13 +3,13 @@ use Rattle.steps.proofs.Sizes.{own_abs, sum-seen}
 use Rattle.measure.proofs.Residuals.{own-fits, gap-fits, gap_is, gap-small}
 use Rattle.measure.proofs.at.residual.Goals as goal
 
-pub overflow-mul-from : goal.overflow-mul-from
-overflow-mul-from c =
+pub overflow_mul-from : goal.overflow_mul-from
+overflow_mul-from c =
     let s = c.args.site.now in
     own-fits c.from.result s.old.value s.stencil.diagonal c.from.ensures s.stencil.diagonal_most (own_abs s.old c.requires.old)
 
-pub overflow-sub-sum : goal.overflow-sub-sum
-overflow-sub-sum c =
+pub overflow_sub-sum : goal.overflow_sub-sum
+overflow_sub-sum c =
     let s = c.args.site.now in
     gap-fits c.from.result s.old.value s.stencil.diagonal c.from.ensures s.stencil.diagonal_most (own_abs s.old c.requires.old)
     c.pull-sum.result c.pull-sum.ensures.size
@@ -21,6 +21,6 @@ returns c =
     let few = s.stencil.diagonal_most in
     let old = own_abs s.old c.requires.old in
     record {
-      value = gap_is c.from.result s.old.value s.stencil.diagonal c.from.ensures few old c.pull-sum.result c.pull-sum.ensures.size c.unsigned-abs.result c.unsigned-abs.ensures.value (site_sum s) sum;
-      most = gap-small c.from.result s.old.value s.stencil.diagonal c.from.ensures few old c.pull-sum.result c.pull-sum.ensures.size c.unsigned-abs.result c.unsigned-abs.ensures.value;
+      value = gap_is c.from.result s.old.value s.stencil.diagonal c.from.ensures few old c.pull-sum.result c.pull-sum.ensures.size c.unsigned_abs.result c.unsigned_abs.ensures.value (site_sum s) sum;
+      most = gap-small c.from.result s.old.value s.stencil.diagonal c.from.ensures few old c.pull-sum.result c.pull-sum.ensures.size c.unsigned_abs.result c.unsigned_abs.ensures.value;
     }

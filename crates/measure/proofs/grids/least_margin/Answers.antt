@@ -14,8 +14,8 @@ look-requires c =
     let st = c.in-Some.stencil in
     within FairMajorant rows c.args.grid.now c.requires i st lt (row_is rows i c.index-rows-index.result (Some st) lt c.index-rows-index.is c.in-Some.is)
 
-pub cell-margin-requires : goal.cell-margin-requires
-cell-margin-requires c =
+pub cell_margin-requires : goal.cell_margin-requires
+cell_margin-requires c =
     let rows = c.args.rows.now in
     let i = c.loop-index.index in
     let lt = c.loop-index-test.true in
@@ -35,10 +35,10 @@ loop-index-preserved c =
         rw w.least-is c.loop-index.invariant.1,
       )
       | in-Some w ↦ (
-        rw (w.least-is, kept_is least w.cell-margin.result w.lesser.result c.loop-index.invariant.1 w.cell-margin.ensures.most w.lesser.ensures)
-            (margin-here rows ws i least lt c.loop-index.invariant.0 w.in-Some.stencil w.look.result w.cell-margin.result
-            (row_is rows i c.index-rows-index.result (Some w.in-Some.stencil) lt c.index-rows-index.is w.in-Some.is) w.look.ensures w.cell-margin.ensures.value),
-        rw w.least-is (kept_small least w.cell-margin.result w.lesser.result c.loop-index.invariant.1 w.cell-margin.ensures.most w.lesser.ensures),
+        rw (w.least-is, kept_is least w.cell_margin.result w.lesser.result c.loop-index.invariant.1 w.cell_margin.ensures.most w.lesser.ensures)
+            (margin-here rows ws i least lt c.loop-index.invariant.0 w.in-Some.stencil w.look.result w.cell_margin.result
+            (row_is rows i c.index-rows-index.result (Some w.in-Some.stencil) lt c.index-rows-index.is w.in-Some.is) w.look.ensures w.cell_margin.ensures.value),
+        rw w.least-is (kept_small least w.cell_margin.result w.lesser.result c.loop-index.invariant.1 w.cell_margin.ensures.most w.lesser.ensures),
       )
     ]
 

@@ -16,8 +16,8 @@ loop-call-init g c =
     let P : List Event → Type 0 = λ es. Replayed p s bs [] es s bs in
     (refl, c.in-Ok.events.ok.0 ∙ ap length made.items, refl, subst P (sym made.items) (none_made p s bs))
 
-pub push-reserved-requires : goal.push-reserved-requires
-push-reserved-requires g c =
+pub push_reserved-requires : goal.push_reserved-requires
+push_reserved-requires g c =
     let inv = c.loop-call.invariant in
     let rest = c.loop-call.call-iterator.rest.items in
     let all : length (c.loop-call.yielded ++ rest) ≡ length (vec_items c.args.calls) = ap length (inv.0 ∙ c.into-iter-call-iterator.ensures.into-iter-gives.0) in
@@ -27,7 +27,7 @@ push-reserved-requires g c =
 pub loop-call-preserved : goal.loop-call-preserved
 loop-call-preserved g c =
     let inv = c.loop-call.invariant in
-    let pushed = c.push-reserved.ensures in
+    let pushed = c.push_reserved.ensures in
     let done = c.loop-call.yielded in
     let call = c.in-Some.call in
     let s = c.args.study.now in

@@ -6,8 +6,8 @@ use Rattle.section.proofs.Cells.{few-cells, shape_size}
 use Rattle.stencil.proofs.Rows.{pushed}
 use Rattle.stencil.proofs.kept.keep.Goals as goal
 
-pub push-reserved-requires : goal.push-reserved-requires
-push-reserved-requires g c =
+pub push_reserved-requires : goal.push_reserved-requires
+push_reserved-requires g c =
     let p = g.G.Ground.plan c.args.ground.now in
     let few : size p ≤ 4096 = few-cells p c.shape.result c.shape.ensures.wide c.shape.ensures.high in
     let n = shape_size p c.shape.result c.cells-index-end.result c.shape.ensures.wide c.shape.ensures.high c.cells-index-end.ensures in
@@ -19,9 +19,9 @@ loop-index-preserved g c =
     let i = c.loop-index.index in
     let records = vec_items c.loop-index.records in
     let P : List Record → Type 0 = λ xs. (k : ℕ) → k < i + 1 → meant (get_or xs k Void) ≡ at p k in (
-      omega (arith, c.push-reserved.ensures.len, c.loop-index.invariant.0),
-      c.push-reserved.ensures.capacity ∙ c.loop-index.invariant.1,
-      subst P (sym c.push-reserved.ensures.items) (pushed (λ k x. meant x ≡ at p k) records i c.record.result Void (sym c.loop-index.records.ok.0 ∙ c.loop-index.invariant.0) c.loop-index.invariant.2 c.record.ensures),
+      omega (arith, c.push_reserved.ensures.len, c.loop-index.invariant.0),
+      c.push_reserved.ensures.capacity ∙ c.loop-index.invariant.1,
+      subst P (sym c.push_reserved.ensures.items) (pushed (λ k x. meant x ≡ at p k) records i c.record.result Void (sym c.loop-index.records.ok.0 ∙ c.loop-index.invariant.0) c.loop-index.invariant.2 c.record.ensures),
     )
 
 pub returns : goal.returns

@@ -2,18 +2,18 @@ use Rattle.std.proofs.Common.{◌≡◌, vec_items, ap, ◌∙◌, subst}
 use Rattle.section.specs.Plan.{Plan}
 use Rattle.stencil.specs.Stencils.{Stands}
 use Rattle.stencil.specs.Keeping.{kept_plan}
-use Rattle.stencil.proofs.Keeping.{kept-plan}
+use Rattle.stencil.proofs.Keeping.{kept_plan}
 use Rattle.stencil.proofs.lay.lay.Goals as goal
 
 pub returns : goal.returns
 returns g c =
     let p = g.G.Ground.plan c.args.ground.now in
     let s = c.shape-shape.result in
-    let read : kept_plan s c.as-slice-records.result.now ≡ p =
-    ap (kept_plan s) c.as-slice-records.ensures.value ∙ kept-plan p s (vec_items c.keep.new.records) c.shape-shape.ensures.wide c.shape-shape.ensures.high c.keep.ensures.cells in
-    let P : Plan → Type 0 = λ q. Stands q (vec_items c.lay-rows.new.rows) in
+    let read : kept_plan s c.as_slice-records.result.now ≡ p =
+    ap (kept_plan s) c.as_slice-records.ensures.value ∙ kept_plan p s (vec_items c.keep.new.records) c.shape-shape.ensures.wide c.shape-shape.ensures.high c.keep.ensures.cells in
+    let P : Plan → Type 0 = λ q. Stands q (vec_items c.lay_rows.new.rows) in
     record {
-      stands = subst P read c.lay-rows.ensures.stands;
+      stands = subst P read c.lay_rows.ensures.stands;
       kept = c.keep.ensures.capacity;
-      laid = c.lay-rows.ensures.capacity;
+      laid = c.lay_rows.ensures.capacity;
     }

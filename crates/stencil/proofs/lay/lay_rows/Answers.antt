@@ -17,8 +17,8 @@ row-requires g c =
       near = omega (arith, few, n, c.loop-index-test.true);
     }
 
-pub push-reserved-requires : goal.push-reserved-requires
-push-reserved-requires g c =
+pub push_reserved-requires : goal.push_reserved-requires
+push_reserved-requires g c =
     let p = g.G.Ground.plan c.args.ground.now in
     let few : size p ≤ 4096 = few-cells p c.shape-shape.result c.shape-shape.ensures.wide c.shape-shape.ensures.high in
     let n = shape_size p c.shape-shape.result c.cells-index-end.result c.shape-shape.ensures.wide c.shape-shape.ensures.high c.cells-index-end.ensures in
@@ -30,9 +30,9 @@ loop-index-preserved g c =
     let i = c.loop-index.index in
     let rows = vec_items c.loop-index.rows in
     let P : List (Option Stencil) → Type 0 = λ xs. (k : ℕ) → k < i + 1 → RowOf p k (get_or xs k None) in (
-      omega (arith, c.push-reserved.ensures.len, c.loop-index.invariant.0),
-      c.push-reserved.ensures.capacity ∙ c.loop-index.invariant.1,
-      subst P (sym c.push-reserved.ensures.items) (pushed (RowOf p) rows i c.row.result None (sym c.loop-index.rows.ok.0 ∙ c.loop-index.invariant.0) c.loop-index.invariant.2 c.row.ensures),
+      omega (arith, c.push_reserved.ensures.len, c.loop-index.invariant.0),
+      c.push_reserved.ensures.capacity ∙ c.loop-index.invariant.1,
+      subst P (sym c.push_reserved.ensures.items) (pushed (RowOf p) rows i c.row.result None (sym c.loop-index.rows.ok.0 ∙ c.loop-index.invariant.0) c.loop-index.invariant.2 c.row.ensures),
     )
 
 pub returns : goal.returns

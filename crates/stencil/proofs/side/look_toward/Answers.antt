@@ -6,8 +6,8 @@ use Rattle.stencil.specs.Stencils.{SideOf, toward}
 use Rattle.stencil.proofs.Sides.{side_free, side_held, small-back, temperature_abs, given_small}
 use Rattle.stencil.proofs.side.look_toward.Goals as goal
 
-pub overflow-cast-result : goal.overflow-cast-result
-overflow-cast-result g c =
+pub overflow_cast-result : goal.overflow_cast-result
+overflow_cast-result g c =
     let p = g.G.Ground.plan c.args.ground.now in
     let inside = free-inside p c.in-Some.cell (subst (λ (x : Cell). T (is_free x)) c.in-Free.ensures tt) in
     omega (arith, inside, c.requires.on.few)

@@ -15,14 +15,14 @@ module _ (c : goal.After-from-4) where
   south-size : c.from-4.result * c.args.south ≤ 500000000
   south-size = load-size c.from-4.result c.args.south (omega (arith, c.from-4.ensures, c.args.stencil.now.south_most)) c.requires.south
 
-pub overflow-add-result : goal.overflow-add-result
-overflow-add-result c = omega (arith, east-size c, south-size c)
+pub overflow_add-result : goal.overflow_add-result
+overflow_add-result c = omega (arith, east-size c, south-size c)
 
-pub overflow-add-result-2 : goal.overflow-add-result-2
-overflow-add-result-2 c = omega (arith, west-size c, east-size c, south-size c)
+pub overflow_add-result-2 : goal.overflow_add-result-2
+overflow_add-result-2 c = omega (arith, west-size c, east-size c, south-size c)
 
-pub overflow-add-result-3 : goal.overflow-add-result-3
-overflow-add-result-3 c = omega (arith, north-size c, west-size c, east-size c, south-size c)
+pub overflow_add-result-3 : goal.overflow_add-result-3
+overflow_add-result-3 c = omega (arith, north-size c, west-size c, east-size c, south-size c)
 
 pub returns : goal.returns
 returns c = record {

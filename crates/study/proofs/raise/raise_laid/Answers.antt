@@ -16,6 +16,6 @@ pub returns : goal.returns
 returns c =
     let from : Plan → List Majorant → Run Majorant = λ p ws. run (raising (nat_abs c.args.margin.margin) p) (is_free_at p) (size p) c.args.most ws in
     record {
-      answer = λ p st. c.raised-by.ensures c.run.new.grid ∙ ap raised_of (c.run.ensures p st ∙ ap (from p) (c.clear.ensures.value p st));
+      answer = λ p st. c.raised_by.ensures c.run.new.grid ∙ ap raised_of (c.run.ensures p st ∙ ap (from p) (c.clear.ensures.value p st));
       grid = λ p st. sym (ran-grid c.run.new.grid c.run.result) ∙ ap (λ r. r.grid) (c.run.ensures p st ∙ ap (from p) (c.clear.ensures.value p st));
     }

@@ -14,12 +14,12 @@ returns-in-Some g c = λ p st.
 pub returns-then-walked-eq0 : goal.returns-then-walked-eq0
 returns-then-walked-eq0 g c = λ p st.
     sym (run_settled (g.R.Rule.step c.args.rule.now) c.args.rows.now c.args.grid.now c.loop-done.grid c.loop-done.done c.loop-done.changed c.args.most
-    c.loop-done-test.true c.loop-done.invariant.1 c.loop-done.invariant.2 (walked_as c.once-walked.new.grid c.once-walked.result) c.once-walked.ensures.value c.in-default.is c.if-walked-eq0.true p st)
+    c.loop-done-test.true c.loop-done.invariant.1 c.loop-done.invariant.2 (walked_as c.once-walked.new.grid c.once-walked.result) c.once-walked.ensures.value c.in_default.is c.if-walked-eq0.true p st)
 
 pub loop-done-preserved : goal.loop-done-preserved
 loop-done-preserved g c = (
   c.once-walked.ensures.kept,
   λ p st. run_on (g.R.Rule.step c.args.rule.now) c.args.rows.now c.args.grid.now c.loop-done.grid c.loop-done.done c.loop-done.changed c.args.most
-      c.loop-done-test.true c.loop-done.invariant.1 c.loop-done.invariant.2 (walked_as c.once-walked.new.grid c.once-walked.result) c.once-walked.ensures.value c.in-default.is p st,
+      c.loop-done-test.true c.loop-done.invariant.1 c.loop-done.invariant.2 (walked_as c.once-walked.new.grid c.once-walked.result) c.once-walked.ensures.value c.in_default.is p st,
   λ z. absurd (c.if-walked-eq0.false z),
 )

@@ -9,8 +9,8 @@ height-requires c =
     let s = c.in-Some.field-0 in
     row-fair FairMajorant rows c.args.self.now.grid.now c.requires.1 c.args.cell s (row_is rows c.args.cell c.index-self-cell.result s c.requires.0 c.in-Some.is) (record { value = pos 0 })
 
-pub too-wide-requires : goal.too-wide-requires
-too-wide-requires c =
+pub too_wide-requires : goal.too_wide-requires
+too_wide-requires c =
     let rows = c.args.self.now.rows.now in
     let s = c.in-Some.field-0 in
     record {

@@ -24,4 +24,4 @@ pub returns-in-Margin : goal.returns-in-Margin
 returns-in-Margin c = sym (ap cause_of c.in-Margin.is)
 
 pub returns-in-Table : goal.returns-in-Table
-returns-in-Table c = c.table-cause.ensures ∙ sym (ap cause_of c.in-Table.is)
+returns-in-Table c = c.table_cause.ensures ∙ sym (ap cause_of c.in-Table.is)

@@ -4,6 +4,6 @@ use Rattle.steps.proofs.tighten.TightenRuleBracketRow.turn.Goals as goal
 
 pub returns : goal.returns
 returns c = record {
-  value = λ p xs i see. c.tighten-at.ensures ∙ tighten-seen c.args.site p xs i see;
-  kept = keeps_any c.tighten-at.result;
+  value = λ p xs i see. c.tighten_at.ensures ∙ tighten-seen c.args.site p xs i see;
+  kept = keeps_any c.tighten_at.result;
 }

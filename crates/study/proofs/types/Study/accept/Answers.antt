@@ -14,15 +14,15 @@ use Rattle.study.proofs.types.Study.accept.Goals as goal
 pub certify-requires : goal.certify-requires
 certify-requires g c =
     let p = pin_plan c.args.self.now.layer.pins.places (g.G.Ground.plan c.args.self.now.layer.below) in
-    let st : Stands p c.deref.result.now = subst (Stands p) (sym c.deref.ensures.value) c.lay-out.ensures.stands in
+    let st : Stands p c.deref.result.now = subst (Stands p) (sym c.deref.ensures.value) c.lay_out.ensures.stands in
     record {
       temperatures = record { plan = p; stands = st; wide = c.requires.temperatures.wide; high = c.requires.temperatures.high; count = c.requires.temperatures.count };
       majorant = record { plan = p; stands = st; wide = c.requires.majorant.wide; high = c.requires.majorant.high; count = c.requires.majorant.count };
       brackets = record { plan = p; stands = st; wide = c.requires.brackets.wide; high = c.requires.brackets.high; count = c.requires.brackets.count };
     }
 
-pub returns-in-err-rest : goal.returns-in-err-rest
-returns-in-err-rest g c =
+pub returns-in_err-rest : goal.returns-in_err-rest
+returns-in_err-rest g c =
     let q = err_from_is_err_and c.from-residual.result c.from-residual.ensures.1 in
     let p = pin_plan c.args.self.now.layer.pins.places (g.G.Ground.plan c.args.self.now.layer.below) in
     let us = c.args.temperatures.now in
@@ -30,15 +30,15 @@ returns-in-err-rest g c =
     let bs = c.args.brackets.now in
     let b = c.args.basis in
     let t = c.args.self.now.tolerance.width in
-    let st : Stands p c.deref.result.now = subst (Stands p) (sym c.deref.ensures.value) c.lay-out.ensures.stands in
-    let k = refused_is (certificate_check p b us ws bs) (fault_of c.in-err-rest.field-0.0) (rest p us, nat_abs (margin p ws)) (c.in-err-rest.ensures.answer p st) in
+    let st : Stands p c.deref.result.now = subst (Stands p) (sym c.deref.ensures.value) c.lay_out.ensures.stands in
+    let k = refused_is (certificate_check p b us ws bs) (fault_of c.in_err-rest.field-0.0) (rest p us, nat_abs (margin p ws)) (c.in_err-rest.ensures.answer p st) in
     record {
       answer = rw (q.1, q.2) (sym (ap (λ j. answer j (certificate_of p t b us ws bs)) k));
       grid = c.certify.ensures.grid p st;
       study = record {
-        layer = c.lay-out.ensures.same.layer;
-        tolerance = c.lay-out.ensures.same.tolerance;
-        stands = c.lay-out.ensures.same.stands ∙ sym (ap (λ j. unless_refused j (standing_of c.args.self.now) (standing c.args.state (open_count p t (written p b us ws bs)))) k);
+        layer = c.lay_out.ensures.same.layer;
+        tolerance = c.lay_out.ensures.same.tolerance;
+        stands = c.lay_out.ensures.same.stands ∙ sym (ap (λ j. unless_refused j (standing_of c.args.self.now) (standing c.args.state (open_count p t (written p b us ws bs)))) k);
       };
     }
 
@@ -49,14 +49,14 @@ returns g c =
     let ws = c.args.majorant.now in
     let bs = c.args.brackets.now in
     let b = c.args.basis in
-    let st : Stands p c.deref.result.now = subst (Stands p) (sym c.deref.ensures.value) c.lay-out.ensures.stands in
-    let again : Stands p c.deref-2.result.now = subst (Stands p) (sym c.deref-2.ensures.value) c.lay-out.ensures.stands in
+    let st : Stands p c.deref.result.now = subst (Stands p) (sym c.deref.ensures.value) c.lay_out.ensures.stands in
+    let again : Stands p c.deref-2.result.now = subst (Stands p) (sym c.deref-2.ensures.value) c.lay_out.ensures.stands in
     let told =
-    accept-is p c.args.self.now.tolerance.width c.lay-out.new.self.tolerance.width (certificate_check p b us ws bs) c.args.state (standing_of c.args.self.now)
-    (rest p us, nat_abs (margin p ws)) c.in-ok-rest.rest c.in-ok-rest.margin c.count-open-self.result bs (written p b us ws bs) c.certify.new.brackets
-    (c.in-ok-rest.ensures.answer p st) (c.certify.ensures.grid p st) (ap (λ t. t.width) c.lay-out.ensures.same.tolerance) (c.count-open-self.ensures p again) in
+    accept-is p c.args.self.now.tolerance.width c.lay_out.new.self.tolerance.width (certificate_check p b us ws bs) c.args.state (standing_of c.args.self.now)
+    (rest p us, nat_abs (margin p ws)) c.in_ok-rest.rest c.in_ok-rest.margin c.count_open-self.result bs (written p b us ws bs) c.certify.new.brackets
+    (c.in_ok-rest.ensures.answer p st) (c.certify.ensures.grid p st) (ap (λ t. t.width) c.lay_out.ensures.same.tolerance) (c.count_open-self.ensures p again) in
     record {
       answer = told.0;
       grid = c.certify.ensures.grid p st;
-      study = record { layer = c.lay-out.ensures.same.layer; tolerance = c.lay-out.ensures.same.tolerance; stands = told.1 };
+      study = record { layer = c.lay_out.ensures.same.layer; tolerance = c.lay_out.ensures.same.tolerance; stands = told.1 };
     }

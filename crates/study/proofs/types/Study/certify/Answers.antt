@@ -11,11 +11,11 @@ returns g c =
     let us = c.args.temperatures.now in
     let ws = c.args.majorant.now in
     let bs = c.args.brackets.now in
-    let e = c.in-ok-sized.ensures.0 in
-    let f = c.in-ok-sized-2.ensures.0 in
-    let h = c.in-ok-shape.ensures.0 in
-    let met = c.in-ok-state.ensures in
-    let told = certify-is p t s us ws bs c.in-ok-state.basis e f h met.2 in
+    let e = c.in_ok-sized.ensures.0 in
+    let f = c.in_ok-sized-2.ensures.0 in
+    let h = c.in_ok-shape.ensures.0 in
+    let met = c.in_ok-state.ensures in
+    let told = certify-is p t s us ws bs c.in_ok-state.basis e f h met.2 in
     let k = c.accept.ensures.study in
     record {
       answer = c.accept.ensures.answer ∙ told.0;
@@ -23,6 +23,6 @@ returns g c =
       study = record {
         layer = k.layer;
         tolerance = k.tolerance;
-        stands = k.stands ∙ certify-stands p t s us ws bs c.in-ok-state.basis e f h met.2 c.in-ok-state.state c.args.self.now.«open» met.1;
+        stands = k.stands ∙ certify-stands p t s us ws bs c.in_ok-state.basis e f h met.2 c.in_ok-state.state c.args.self.now.«open» met.1;
       };
     }

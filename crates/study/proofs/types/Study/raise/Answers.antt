@@ -7,27 +7,27 @@ use Rattle.layers.specs.Layers.{pin_plan}
 use Rattle.study.proofs.Checks.{raise_is}
 use Rattle.study.proofs.types.Study.raise.Goals as goal
 
-pub returns-in-err-shape : goal.returns-in-err-shape
-returns-in-err-shape g c =
+pub returns-in_err-shape : goal.returns-in_err-shape
+returns-in_err-shape g c =
     let q = err_from_is_err_and c.from-residual.result c.from-residual.ensures.1 in
     let p = pin_plan c.args.self.now.layer.pins.places (g.G.Ground.plan c.args.self.now.layer.below) in
     let f = c.ranges.margin in
     let w = c.ranges.walks in
-    let e = simp to_z-of_z at c.in-err-shape.ensures in
-    let r = raise_is p c.args.grid.now c.args.margin c.args.walks (refuse (fault_of c.in-err-shape.field-0.0)) e in
+    let e = simp to_z-of_z at c.in_err-shape.ensures in
+    let r = raise_is p c.args.grid.now c.args.margin c.args.walks (refuse (fault_of c.in_err-shape.field-0.0)) e in
     record {
       answer = rw (q.1, q.2) (ap (λ x. x.0) r);
       grid = ap (λ x. x.1) r;
       study = record { layer = refl; tolerance = refl; stands = refl };
     }
 
-pub raise-laid-requires : goal.raise-laid-requires
-raise-laid-requires g c =
+pub raise_laid-requires : goal.raise_laid-requires
+raise_laid-requires g c =
     let p = pin_plan c.args.self.now.layer.pins.places (g.G.Ground.plan c.args.self.now.layer.below) in
-    let r = c.in-ok-shape.ensures.fits in
+    let r = c.in_ok-shape.ensures.fits in
     record {
       plan = p;
-      stands = subst (Stands p) (sym c.deref.ensures.value) c.lay-out.ensures.stands;
+      stands = subst (Stands p) (sym c.deref.ensures.value) c.lay_out.ensures.stands;
       wide = r.wide;
       high = r.high;
       count = r.count;
@@ -36,13 +36,13 @@ raise-laid-requires g c =
 pub returns : goal.returns
 returns g c =
     let p = pin_plan c.args.self.now.layer.pins.places (g.G.Ground.plan c.args.self.now.layer.below) in
-    let stands : Stands p c.deref.result.now = subst (Stands p) (sym c.deref.ensures.value) c.lay-out.ensures.stands in
+    let stands : Stands p c.deref.result.now = subst (Stands p) (sym c.deref.ensures.value) c.lay_out.ensures.stands in
     let f = c.ranges.margin in
     let w = c.ranges.walks in
-    let e = simp to_z-of_z at c.in-ok-shape.ensures.fine in
+    let e = simp to_z-of_z at c.in_ok-shape.ensures.fine in
     let r = raise_is p c.args.grid.now c.args.margin c.args.walks clear e in
     record {
-      answer = ap accepted (let a = simp to_z-of_z at (c.raise-laid.ensures.answer p stands) in a) ∙ ap (λ x. x.0) r;
-      grid = (let a = simp to_z-of_z at (c.raise-laid.ensures.grid p stands) in a) ∙ ap (λ x. x.1) r;
-      study = c.lay-out.ensures.same;
+      answer = ap accepted (let a = simp to_z-of_z at (c.raise_laid.ensures.answer p stands) in a) ∙ ap (λ x. x.0) r;
+      grid = (let a = simp to_z-of_z at (c.raise_laid.ensures.grid p stands) in a) ∙ ap (λ x. x.1) r;
+      study = c.lay_out.ensures.same;
     }

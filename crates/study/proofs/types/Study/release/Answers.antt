@@ -9,9 +9,9 @@ use Rattle.study.specs.Studies.{pinning_of}
 use Rattle.study.proofs.Pins.{unless_part, stands-refused, stands-anew}
 use Rattle.study.proofs.types.Study.release.Goals as goal
 
-pub returns-in-err-release : goal.returns-in-err-release
-returns-in-err-release g c =
-    let q = err_from_is_err_and c.from-residual-in-err-release.result c.from-residual-in-err-release.ensures.1 in
+pub returns-in_err-release : goal.returns-in_err-release
+returns-in_err-release g c =
+    let q = err_from_is_err_and c.from-residual-in_err-release.result c.from-residual-in_err-release.ensures.1 in
     let s = c.args.self.now in
     let ground = g.G.Ground.plan s.layer.below in
     let x = pinning_of s in
@@ -19,13 +19,13 @@ returns-in-err-release g c =
     let n = x.count - 1 in
     let k = release_check ground s.layer.pins.places c.args.cell in
     record {
-      answer = rw (q.1, q.2) c.in-err-release.ensures.answer;
+      answer = rw (q.1, q.2) c.in_err-release.ensures.answer;
       study = record {
         below = c.release.ensures.kept;
         tolerance = refl;
         pins = λ i. c.release.ensures.pins i ∙ unless_part (λ y. y.pins i) k x (anew ground pins n);
         count = c.release.ensures.count ∙ unless_part (λ y. y.count) k x (anew ground pins n);
-        stands = stands-refused k x ground pins n (fault_of c.in-err-release.field-0.0) c.in-err-release.ensures.answer;
+        stands = stands-refused k x ground pins n (fault_of c.in_err-release.field-0.0) c.in_err-release.ensures.answer;
       };
     }
 
@@ -38,14 +38,14 @@ returns g c =
     let n = x.count - 1 in
     let k = release_check ground s.layer.pins.places c.args.cell in
     record {
-      answer = c.in-ok-release.ensures.answer;
+      answer = c.in_ok-release.ensures.answer;
       study = record {
         below = ap (λ l. l.below) c.begin.ensures.layer ∙ c.release.ensures.kept;
         tolerance = c.begin.ensures.tolerance;
         pins = λ i. ap (λ l. pinned_at l.pins.places i) c.begin.ensures.layer ∙ c.release.ensures.pins i ∙ unless_part (λ y. y.pins i) k x (anew ground pins n);
         count = ap (λ l. used l.pins.places) c.begin.ensures.layer ∙ c.release.ensures.count ∙ unless_part (λ y. y.count) k x (anew ground pins n);
         stands = c.begin.ensures.stands
-            ∙ stands-anew k x ground pins n c.in-ok-state.state (g.G.Ground.plan c.release.new.self.below) (pinned_at c.release.new.self.pins.places)
-            c.in-ok-release.ensures.answer c.in-ok-state.ensures.1 (ap g.G.Ground.plan c.release.ensures.kept) c.release.ensures.pins;
+            ∙ stands-anew k x ground pins n c.in_ok-state.state (g.G.Ground.plan c.release.new.self.below) (pinned_at c.release.new.self.pins.places)
+            c.in_ok-release.ensures.answer c.in_ok-state.ensures.1 (ap g.G.Ground.plan c.release.ensures.kept) c.release.ensures.pins;
       };
     }
