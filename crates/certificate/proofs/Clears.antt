@@ -37,10 +37,10 @@ module _ (least most z : ℤ) (e : outside least most z ≡ false) where
   below = grind (arith, ints)
 
 -- a grid within its limits can be walked
-limited-walkable :
+limited_walkable :
     {E : Type 0} (fair : E → Type 0) (value : E → ℤ) (least most : ℤ) (none : E) (k : ℕ) → ((x : E) → least ≤ℤ value x → value x ≤ℤ most → fair x) →
     (s : Shape) (rows : List (Option Stencil)) (xs : List E) (l : Laid s rows (length xs)) → free_check l.plan k (λ i. outside least most (value (get_or xs i none))) ≡ clear → Walkable fair rows xs
-limited-walkable fair value least most none k fair-of s rows xs l e = record {
+limited_walkable fair value least most none k fair-of s rows xs l e = record {
   plan = l.plan;
   stands = l.stands;
   count = l.count;
@@ -51,7 +51,7 @@ limited-walkable fair value least most none k fair-of s rows xs l e = record {
 }
 
 pub mild_walkable : (s : Shape) (rows : List (Option Stencil)) (us : List Temperature) (l : Laid s rows (length us)) → temperature_check l.plan us ≡ clear → Walkable FairTemperature rows us
-mild_walkable = limited-walkable FairTemperature (λ t. t.value) (negsuc 999999999) (pos 1000000000) (record { value = pos 0 }) 10 (λ t lo hi. record { least = lo; most = hi })
+mild_walkable = limited_walkable FairTemperature (λ t. t.value) (negsuc 999999999) (pos 1000000000) (record { value = pos 0 }) 10 (λ t lo hi. record { least = lo; most = hi })
 
 pub fair_walkable : (s : Shape) (rows : List (Option Stencil)) (ws : List Majorant) (l : Laid s rows (length ws)) → majorant_check l.plan ws ≡ clear → Walkable FairMajorant rows ws
-fair_walkable = limited-walkable FairMajorant (λ w. w.value) (pos 0) (pos 500000) (record { value = pos 0 }) 11 (λ w lo hi. record { least = lo; most = hi })
+fair_walkable = limited_walkable FairMajorant (λ w. w.value) (pos 0) (pos 500000) (record { value = pos 0 }) 11 (λ w lo hi. record { least = lo; most = hi })

@@ -27,20 +27,20 @@ margin_at_row p ws k s q = rw (q.diagonal, q.loads (heights ws)) refl
 pub spread_measured : (p : Plan) (us : List Temperature) (ws : List Majorant) (m : Measure) → MeasureOf p us ws m → (k : ℕ) → spread_of m.rest m.margin (heights ws k) ≡ spread p us ws k
 spread_measured p us ws m of k = rw (of.rest_is, of.margin_is) refl
 
-pub first-hot :
+pub first_hot :
     (p : Plan) (s : Shape) (rows : List (Option Stencil)) (us : List Temperature) → Laid s rows (length us) → Stands p rows →
     first (λ k. at_row (λ r. outside (negsuc 999999999) (pos 1000000000) (temperatures us k)) (get_or rows k None)) (s.high * s.wide) ≡ first (λ i. is_free_at p i && outside (negsuc 999999999) (pos 1000000000) (temperatures us i)) (size p)
-first-hot p s rows us l st = first-at p (λ k. outside (negsuc 999999999) (pos 1000000000) (temperatures us k)) s rows (length us) l st
+first_hot p s rows us l st = first-at p (λ k. outside (negsuc 999999999) (pos 1000000000) (temperatures us k)) s rows (length us) l st
 
 pub first-high :
     (p : Plan) (s : Shape) (rows : List (Option Stencil)) (ws : List Majorant) → Laid s rows (length ws) → Stands p rows →
     first (λ k. at_row (λ r. outside (pos 0) (pos 500000) (majorants ws k)) (get_or rows k None)) (s.high * s.wide) ≡ first (λ i. is_free_at p i && outside (pos 0) (pos 500000) (majorants ws i)) (size p)
 first-high p s rows ws l st = first-at p (λ k. outside (pos 0) (pos 500000) (majorants ws k)) s rows (length ws) l st
 
-pub first-slack :
+pub first_slack :
     (p : Plan) (s : Shape) (rows : List (Option Stencil)) (ws : List Majorant) → Laid s rows (length ws) → Stands p rows →
     first (λ k. at_row (λ r. lt_z (row_margin r ws k) (pos 1)) (get_or rows k None)) (s.high * s.wide) ≡ first (λ i. is_free_at p i && lt_z (cell_margin p ws i) (pos 1)) (size p)
-first-slack p s rows ws l st = first-row p (λ r k. lt_z (row_margin r ws k) (pos 1)) (λ k. lt_z (cell_margin p ws k) (pos 1)) (margin_at_row p ws) s rows (length ws) l st
+first_slack p s rows ws l st = first-row p (λ r k. lt_z (row_margin r ws k) (pos 1)) (λ k. lt_z (cell_margin p ws k) (pos 1)) (margin_at_row p ws) s rows (length ws) l st
 
 pub first-wide :
     (p : Plan) (s : Shape) (rows : List (Option Stencil)) (us : List Temperature) (ws : List Majorant) (m : Measure) → Laid s rows (length ws) → Stands p rows → MeasureOf p us ws m →

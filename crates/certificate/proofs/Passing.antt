@@ -20,9 +20,9 @@ use Rattle.certificate.proofs.Margins.{margin_is}
 use Rattle.certificate.proofs.Rows.{row-cell}
 
 -- margins that are enough make the measure useful
-pub useful-of :
+pub useful_of :
     (p : Plan) (rows : List (Option Stencil)) (us : List Temperature) (ws : List Majorant) (m : Measure) → Stands p rows → MeasureOf p us ws m → margin_check p ws ≡ clear → Useful rows m
-useful-of p rows us ws m st of e k s h =
+useful_of p rows us ws m st of e k s h =
     let ones = λ (i : ℕ) (f : Free p i). one (cell_margin p ws i) (clear_at p 12 (λ (j : ℕ). lt_z (cell_margin p ws j) (pos 1)) e i f) in
     rw of.margin_is (some (margin p ws) (margin_is p ws ones k (row-cell p rows k s st h)).0)
   where
@@ -33,13 +33,13 @@ useful-of p rows us ws m st of e k s h =
     some z h = omega (arith, ints)
 
 -- and with spreads that are near, the grids can be certified
-pub certifiable-of :
+pub certifiable_of :
     (p : Plan) (rows : List (Option Stencil)) (us : List Temperature) (ws : List Majorant) (m : Measure) → Stands p rows → MeasureOf p us ws m →
     Walkable FairTemperature rows us → Walkable FairMajorant rows ws → margin_check p ws ≡ clear → spread_check p us ws ≡ clear → Certifiable rows us ws m
-certifiable-of p rows us ws m st of mild fair enough near = record {
+certifiable_of p rows us ws m st of mild fair enough near = record {
   mild = mild;
   fair = fair;
-  useful = useful-of p rows us ws m st of enough;
+  useful = useful_of p rows us ws m st of enough;
   near = λ k s h. rw (spread_measured p us ws m of k) (most (spread p us ws k) (clear_at p 13 (λ (j : ℕ). ltb 1000000000 (spread p us ws j)) near k (row-cell p rows k s st h)));
 }
   where

@@ -34,10 +34,10 @@ module _ (p : Plan) (b : Basis) (us : List Temperature) (ws : List Majorant) (bs
     pub write_past : is_free_at p i ≡ false → xs ≡ written_to p b us ws (i + 1) bs
     write_past n = rw (add-one, n) so_far
 
-    pub write-here :
+    pub write_here :
         (m : Measure) (own row d : BracketRow) → MeasureOf p us ws m → Free p i → i < length xs →
         own ≡ around (temperatures us i) (spread_of m.rest m.margin (heights ws i)) → row ≡ settled b own (get_or xs i d) → set xs i row ≡ written_to p b us ws (i + 1) bs
-    write-here m own row d of f l o r =
+    write_here m own row d of f l o r =
         let read : get_or xs i d ≡ get_or bs i widest = get_or_default xs i d widest l ∙ ap (λ ys. get_or ys i widest) so_far ∙ ahead i i widest (omega arith) in
         let certified-is : own ≡ certified p us ws i = o ∙ ap (around (temperatures us i)) (spread_measured p us ws m of i) in
         let row_is : row ≡ settled b (certified p us ws i) (get_or bs i widest) = r ∙ ap (λ x. settled b x (get_or xs i d)) certified-is ∙ ap (settled b (certified p us ws i)) read in

@@ -18,7 +18,7 @@ pub trait Ground {
 }
 
 pub fn free_cells<G: Ground>(ground: &G) -> usize
-    ensures { result ≡ free_count (plan ground.now) }
+    ensures { result ≡ free_count (G.plan ground.now) }
 {
     let mut count = 0;
     for index in 0..ground.shape().cells() {

@@ -20,10 +20,10 @@ use Rattle.study.specs.declared.types.State.{State}
 use Rattle.history.proofs.Checks.{accepted_is, length_is, some_is}
 
 -- a certificate whose checks are clear
-pub certify-leaves :
+pub certify_leaves :
     (p : Plan) (s : State) (us : List Temperature) (ws : List Majorant) (before : List BracketRow) → certify_check p s us ws before ≡ clear →
     Leaves p (basis_of s) before (written p (basis_of s) us ws before)
-certify-leaves p s us ws before e =
+certify_leaves p s us ws before e =
     let accepting = certificate_check p (basis_of s) us ws before in
     let a = both_clear (length_check p (length us)) (length_check p (length ws) then length_check p (length before) then accepting) e in
     let b = both_clear (length_check p (length ws)) (length_check p (length before) then accepting) a.1 in
@@ -45,7 +45,7 @@ module _
     clears = (accepted_is (certify_check p s us ws before) e).0
 
     pub accepted_leaves : Leaves p (basis_of s) before (certify_grid p s us ws before)
-    accepted_leaves = rw clears (certify-leaves p s us ws before clears)
+    accepted_leaves = rw clears (certify_leaves p s us ws before clears)
 
     pub accepted-counts : c.«open» ≡ open_count p tolerance (certify_grid p s us ws before)
     accepted-counts = rw clears (ap (λ x. x.«open») (accepted_is (certify_check p s us ws before) e).1)

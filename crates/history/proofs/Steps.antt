@@ -15,7 +15,7 @@ use Rattle.study.specs.declared.types.State.TheVariants.{Unproved, Proved}
 use Rattle.history.specs.Events.{Event, relaxed, raised, certified, tightened, pinned, released, asked, counted, finished, History, equations, proved_by, grid_by}
 use Rattle.history.specs.Doing.{state_by, Does}
 use Rattle.history.specs.Law.{NoWider, AnswersTruly}
-use Rattle.history.proofs.Calls.{certify-leaves, accepted_leaves, accepted-counts, raise_tells}
+use Rattle.history.proofs.Calls.{certify_leaves, accepted_leaves, accepted-counts, raise_tells}
 
 -- what a call leaves of brackets that are proved or not
 abbrev pub Passes : Plan → Bool → List BracketRow → List BracketRow → Type 0
@@ -66,7 +66,7 @@ module _ (ground : Plan) (tolerance : ℤ) (bs : List BracketRow) where
         refl,
         rw d.1 (
             unless p before (written p (basis_of (state_by h)) us ws before) (proved_by h) (certify_check p (state_by h) us ws before) t
-            (certify-leaves p (state_by h) us ws before)),
+            (certify_leaves p (state_by h) us ws before)),
       )
   step (tightened n a after) h d t =
       let p = equations ground h in

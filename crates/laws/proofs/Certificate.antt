@@ -11,7 +11,7 @@ use Rattle.steps.specs.Steps.{heights}
 use Rattle.laws.specs.Exact.{Exact, Bracketed}
 use Rattle.certificate.proofs.Margins.{margin_is}
 use Rattle.measure.specs.Measures.{residual, rest_to, rest, cell_margin, margin, spread, certified}
-use Rattle.laws.proofs.Equations.{pull-is, equation-is}
+use Rattle.laws.proofs.Equations.{pull_is, equation_is}
 use Rattle.laws.proofs.Peak.{large, principle}
 use Rattle.laws.proofs.Rounds.{ceil_is}
 use Rattle.laws.proofs.Sums.{dot_n-add, dot_n-scale}
@@ -76,11 +76,11 @@ module _ (p : Plan) (u v : ℕ → ℤ) (D R : ℕ) (exact : Exact p D v) (near 
   same j t h = rw (entry-held p u j t h) (let e = exact.at_held j t h in omega (arith, ints))
 
   -- |S - d u| ≤ R, in naturals
-  near-is :
+  near_is :
       (i : ℕ) → Free p i →
       (up (heat p i) + dot_n (links p i) (λ j. up (entry p u j)) + diag p i * down (u i) ≤ R + down (heat p i) + dot_n (links p i) (λ j. down (entry p u j)) + diag p i * up (u i)) ×
       (down (heat p i) + dot_n (links p i) (λ j. down (entry p u j)) + diag p i * up (u i) ≤ R + up (heat p i) + dot_n (links p i) (λ j. up (entry p u j)) + diag p i * down (u i))
-  near-is i f = omega (arith, ints, pull-is p u i, near i f)
+  near_is i f = omega (arith, ints, pull_is p u i, near i f)
 
   both :
       (i : ℕ) → Free p i →
@@ -91,9 +91,9 @@ module _ (p : Plan) (u v : ℕ → ℤ) (D R : ℕ) (exact : Exact p D v) (near 
       rw (entry_free p u i f)
       (omega (
         arith,
-        equation-is p D v exact i f,
-        mul-le-mul_left D (near-is i f).0,
-        mul-le-mul_left D (near-is i f).1,
+        equation_is p D v exact i f,
+        mul-le-mul_left D (near_is i f).0,
+        mul-le-mul_left D (near_is i f).1,
         dot_n-add ls (λ j. up (v j)) (λ j. D * down (entry p u j)),
         dot_n-add ls (λ j. down (v j)) (λ j. D * up (entry p u j)),
         dot_n-scale ls D (λ j. up (entry p u j)),

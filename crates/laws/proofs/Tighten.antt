@@ -15,18 +15,18 @@ use Rattle.laws.specs.Exact.{Exact, Within, Bracketed}
 use Rattle.steps.specs.Tightening.{lows, highs, tighter, tightening}
 use Rattle.laws.specs.Tightening.{Tightened, TighteningLaw}
 use Rattle.laws.proofs.Narrowing.{max-below, min-above, max_from, min_to, row_limits, row_reads}
-use Rattle.laws.proofs.Equations.{pull-is, equation-is}
+use Rattle.laws.proofs.Equations.{pull_is, equation_is}
 use Rattle.laws.proofs.Links.{at-links}
 use Rattle.laws.proofs.Rounds.{floor-le}
 use Rattle.laws.proofs.Runs.{at_set, run_says}
 use Rattle.laws.proofs.Sums.{dot_n-le, dot_n-add, dot_n-scale}
 
 -- Where D lo ≤ v at each link, D times the floor of S / d is at most v: lo is x - y, v is a - b, the heat hu - hd, S su - sd, the floor fu - fd.
-quotient-below :
+quotient_below :
     (ls : List Link) (x y a b : ℕ → ℕ) (D d i hu hd su sd fu fd : ℕ) → 1 ≤ d → All (λ l. D * x l.cell + b l.cell ≤ a l.cell + D * y l.cell) ls →
     d * a i + D * hd + dot_n ls b ≡ d * b i + D * hu + dot_n ls a → su + hd + dot_n ls y ≡ sd + hu + dot_n ls x → d * fu + sd ≤ su + d * fd →
     D * fu + b i ≤ a i + D * fd
-quotient-below ls x y a b D d i hu hd su sd fu fd one low equation sum quotient =
+quotient_below ls x y a b D d i hu hd su sd fu fd one low equation sum quotient =
     le_of_mul-le-mul_left {k = d}
     (omega (
       arith,
@@ -52,8 +52,8 @@ module _ (p : Plan) (D : ℕ) (v u : ℕ → ℤ) (exact : Exact p D v) (i : ℕ
       (λ j g. rw (entry_free p u j g) (omega (arith, ints, h j g)))
       (λ j t g. rw (entry-held p u j t g) (omega (arith, ints, exact.at_held j t g))) i in
       let below =
-      quotient-below (links p i) (λ j. up (entry p u j)) (λ j. down (entry p u j)) (λ j. up (v j)) (λ j. down (v j)) D (diag p i) i
-      (up (heat p i)) (down (heat p i)) (up S) (down S) (up q) (down q) one low (equation-is p D v exact i f) (pull-is p u i) (floor-le S (diag p i) one) in
+      quotient_below (links p i) (λ j. up (entry p u j)) (λ j. down (entry p u j)) (λ j. up (v j)) (λ j. down (v j)) D (diag p i) i
+      (up (heat p i)) (down (heat p i)) (up S) (down S) (up q) (down q) one low (equation_is p D v exact i f) (pull_is p u i) (floor-le S (diag p i) one) in
       omega (arith, ints)
 
   ceiling-above : ((j : ℕ) → Free p j → v j ≤ℤ (pos D *ℤ u j)) → v i ≤ℤ (pos D *ℤ ceiling S (diag p i))
@@ -64,8 +64,8 @@ module _ (p : Plan) (D : ℕ) (v u : ℕ → ℤ) (exact : Exact p D v) (i : ℕ
       (λ j g. rw (entry_free p u j g) (omega (arith, ints, h j g)))
       (λ j t g. rw (entry-held p u j t g) (omega (arith, ints, exact.at_held j t g))) i in
       let above =
-      quotient-below (links p i) (λ j. down (entry p u j)) (λ j. up (entry p u j)) (λ j. down (v j)) (λ j. up (v j)) D (diag p i) i
-      (down (heat p i)) (up (heat p i)) (down S) (up S) (up q) (down q) one high (sym (equation-is p D v exact i f)) (sym (pull-is p u i))
+      quotient_below (links p i) (λ j. down (entry p u j)) (λ j. up (entry p u j)) (λ j. down (v j)) (λ j. up (v j)) D (diag p i) i
+      (down (heat p i)) (up (heat p i)) (down S) (up S) (up q) (down q) one high (sym (equation_is p D v exact i f)) (sym (pull_is p u i))
       (omega (arith, neg_is S, floor-le (neg_ℤ S) (diag p i) one)) in
       omega (arith, ints, ap (λ (n : ℕ). D * n) (neg_is q).0, ap (λ (n : ℕ). D * n) (neg_is q).1)
 

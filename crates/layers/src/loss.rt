@@ -26,9 +26,9 @@ impl<G> LossLayer<G> {
 
 impl<G: Ground> LossLayer<G> {
     pub fn put(&mut self, cell: usize, weight: i64) -> Result<(), Refusal>
-        ensures answer { answer_of result ≡ answer (loss_check (plan self.old.below) self.old.losses.places cell weight) tt }
-        ensures losses { (j : ℕ) → loss_at self.new.losses.places j ≡ unless_refused (loss_check (plan self.old.below) self.old.losses.places cell weight) (loss_at self.old.losses.places j) (altered (loss_at self.old.losses.places) cell (Some (unsigned_abs weight)) j) }
-        ensures count { used self.new.losses.places ≡ unless_refused (loss_check (plan self.old.below) self.old.losses.places cell weight) (used self.old.losses.places) (if is_some (loss_at self.old.losses.places cell) then used self.old.losses.places else used self.old.losses.places + 1) }
+        ensures answer { answer_of result ≡ answer (loss_check (G.plan self.old.below) self.old.losses.places cell weight) tt }
+        ensures losses { (j : ℕ) → loss_at self.new.losses.places j ≡ unless_refused (loss_check (G.plan self.old.below) self.old.losses.places cell weight) (loss_at self.old.losses.places j) (altered (loss_at self.old.losses.places) cell (Some (unsigned_abs weight)) j) }
+        ensures count { used self.new.losses.places ≡ unless_refused (loss_check (G.plan self.old.below) self.old.losses.places cell weight) (used self.old.losses.places) (if is_some (loss_at self.old.losses.places cell) then used self.old.losses.places else used self.old.losses.places + 1) }
         ensures kept { self.new.below ≡ self.old.below }
     {
         if cell >= self.below.shape().cells() {

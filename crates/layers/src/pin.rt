@@ -27,7 +27,7 @@ impl<G> PinLayer<G> {
 impl<G: Ground> PinLayer<G> {
     // All that a pin is checked for, but whether the table has room.
     fn pinnable(&self, cell: usize, temperature: i64) -> Result<HeldRecord, Refusal>
-        ensures { MatchResult result (λ h. (h.temperature ≡ temperature) × (is_some (lookup self.now.pins.places cell) ≡ false) × (pin_check (plan self.now.below) self.now.pins.places cell temperature ≡ when (nat_le 32 (used self.now.pins.places)) (fault AtTable 5 cell))) (λ e. pin_check (plan self.now.below) self.now.pins.places cell temperature ≡ refuse (fault_of e)) }
+        ensures { MatchResult result (λ h. (h.temperature ≡ temperature) × (is_some (lookup self.now.pins.places cell) ≡ false) × (pin_check (G.plan self.now.below) self.now.pins.places cell temperature ≡ when (nat_le 32 (used self.now.pins.places)) (fault AtTable 5 cell))) (λ e. pin_check (G.plan self.now.below) self.now.pins.places cell temperature ≡ refuse (fault_of e)) }
     {
         if cell >= self.below.shape().cells() {
             return Err(Refusal::NoSuchCell(cell));
@@ -41,9 +41,9 @@ impl<G: Ground> PinLayer<G> {
     }
 
     pub fn pin(&mut self, cell: usize, temperature: i64) -> Result<(), Refusal>
-        ensures answer { answer_of result ≡ answer (pin_check (plan self.old.below) self.old.pins.places cell temperature) tt }
-        ensures pins { (j : ℕ) → pinned_at self.new.pins.places j ≡ unless_refused (pin_check (plan self.old.below) self.old.pins.places cell temperature) (pinned_at self.old.pins.places j) (altered (pinned_at self.old.pins.places) cell (Some temperature) j) }
-        ensures count { used self.new.pins.places ≡ unless_refused (pin_check (plan self.old.below) self.old.pins.places cell temperature) (used self.old.pins.places) (used self.old.pins.places + 1) }
+        ensures answer { answer_of result ≡ answer (pin_check (G.plan self.old.below) self.old.pins.places cell temperature) tt }
+        ensures pins { (j : ℕ) → pinned_at self.new.pins.places j ≡ unless_refused (pin_check (G.plan self.old.below) self.old.pins.places cell temperature) (pinned_at self.old.pins.places j) (altered (pinned_at self.old.pins.places) cell (Some temperature) j) }
+        ensures count { used self.new.pins.places ≡ unless_refused (pin_check (G.plan self.old.below) self.old.pins.places cell temperature) (used self.old.pins.places) (used self.old.pins.places + 1) }
         ensures kept { self.new.below ≡ self.old.below }
     {
         let held = self.pinnable(cell, temperature)?;
@@ -52,9 +52,9 @@ impl<G: Ground> PinLayer<G> {
     }
 
     pub fn release(&mut self, cell: usize) -> Result<(), Refusal>
-        ensures answer { answer_of result ≡ answer (release_check (plan self.old.below) self.old.pins.places cell) tt }
-        ensures pins { (j : ℕ) → pinned_at self.new.pins.places j ≡ unless_refused (release_check (plan self.old.below) self.old.pins.places cell) (pinned_at self.old.pins.places j) (altered (pinned_at self.old.pins.places) cell None j) }
-        ensures count { used self.new.pins.places ≡ unless_refused (release_check (plan self.old.below) self.old.pins.places cell) (used self.old.pins.places) (used self.old.pins.places - 1) }
+        ensures answer { answer_of result ≡ answer (release_check (G.plan self.old.below) self.old.pins.places cell) tt }
+        ensures pins { (j : ℕ) → pinned_at self.new.pins.places j ≡ unless_refused (release_check (G.plan self.old.below) self.old.pins.places cell) (pinned_at self.old.pins.places j) (altered (pinned_at self.old.pins.places) cell None j) }
+        ensures count { used self.new.pins.places ≡ unless_refused (release_check (G.plan self.old.below) self.old.pins.places cell) (used self.old.pins.places) (used self.old.pins.places - 1) }
         ensures kept { self.new.below ≡ self.old.below }
     {
         if cell >= self.below.shape().cells() {

@@ -62,10 +62,10 @@ module _ {G : Type 0} (s s' : Study G) where
   }
 
   -- what stands as a longer history says was led to by it
-  pub leads-on :
+  pub leads_on :
       (ground : Plan) (start : List BracketRow) (h : History) (cs : List BracketRow) (x : Pinning) → Repinned s s' x →
       x ≡ pinning_by ground s.tolerance.width start h → cs ≡ grid_by start h → Led ground s' start h cs
-  leads-on ground start h cs x so e grid = record {
+  leads_on ground start h cs x so e grid = record {
     pins = λ i. so.pins i ∙ ap (λ (y : Pinning). y.pins i) e;
     count = so.count ∙ ap (λ (y : Pinning). y.count) e;
     state = ap (λ (k : Standing). k.state) so.stands ∙ ap (λ (y : Pinning). y.stands.state) e;

@@ -34,21 +34,21 @@ module _ (ground : Plan) (tolerance : ℤ) (start : List BracketRow) (h : Histor
   certify-stands us ws clear x w = refl
   certify-stands us ws (refuse f) x w = refl
 
-  pub pin-leaves :
+  pub pin_left :
       (i : ℕ) (t : ℤ) (k : Check) →
       unless_refused k (pinning_by ground tolerance start h) (anew ground (altered (held_by h) i (Some t)) (pins_by h + 1))
       ≡ pinning_by ground tolerance start (pinned i t (answer k tt) ∷ h)
-  pin-leaves i t clear =
+  pin_left i t clear =
       let pins = altered (held_by h) i (Some t) in ap (λ n. pinning pins (pins_by h + 1) (standing Unproved n)) (sym (all_open (holding ground pins)))
-  pin-leaves i t (refuse f) = refl
+  pin_left i t (refuse f) = refl
 
-  pub release-leaves :
+  pub release_left :
       (i : ℕ) (k : Check) →
       unless_refused k (pinning_by ground tolerance start h) (anew ground (altered (held_by h) i None) (pins_by h - 1))
       ≡ pinning_by ground tolerance start (released i (answer k tt) ∷ h)
-  release-leaves i clear =
+  release_left i clear =
       let pins = altered (held_by h) i None in ap (λ n. pinning pins (pins_by h - 1) (standing Unproved n)) (sym (all_open (holding ground pins)))
-  release-leaves i (refuse f) = refl
+  release_left i (refuse f) = refl
 
 -- brackets are written by tightening only where they are proved
 module _ (p : Plan) (tolerance : ℤ) (bs w : List BracketRow) where
@@ -69,11 +69,11 @@ module _ (p : Plan) (tolerance : ℤ) (bs w : List BracketRow) where
   tighten-stands false (refuse f) m = refl
 
 -- the answer to the question for a bracket
-pub ask-is :
+pub ask_is :
     (r : Result Bracket Refusal) (k : Check) (x : BracketRow) → MatchResult r (λ b. (k ≡ clear) × (plain b ≡ x)) (λ e. k ≡ refuse (fault_of e)) →
     bracket_answer r ≡ answer k x
-ask-is (Ok b) k x so = ap (answer clear) so.1 ∙ sym (ap (λ j. answer j x) so.0)
-ask-is (Err e) k x so = sym (ap (λ j. answer j x) so)
+ask_is (Ok b) k x so = ap (answer clear) so.1 ∙ sym (ap (λ j. answer j x) so.0)
+ask_is (Err e) k x so = sym (ap (λ j. answer j x) so)
 
 pub finished_is : (proved : Bool) (n : ℕ) → is_finished (standing (cond proved Proved Unproved) n) ≡ (proved && eqb n 0)
 finished_is true n = refl

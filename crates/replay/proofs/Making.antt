@@ -28,8 +28,8 @@ use Rattle.replay.specs.declared.types.Call.TheVariants.{Relax, Raise, Certify, 
 use Rattle.replay.specs.declared.types.Answer.{Answer as Told}
 use Rattle.replay.specs.declared.types.Answer.TheVariants.{Relaxed, Raised, Certified, Tightened, Pinned, Released, Bracket as Asked, OpenCount as Counted, Finished as SaidFinished}
 use Rattle.replay.specs.declared.types.Event.{Event}
-use Rattle.replay.proofs.Leading.{ap2, ap3, ap4, standing_by, pinning_by, held_is, equations_are, standing_is, pinned_is, pinning_is, becomes, leads-on}
-use Rattle.replay.proofs.Leaving.{certify-stands, tighten-stands, pin-leaves, release-leaves, ask-is, finished_is}
+use Rattle.replay.proofs.Leading.{ap2, ap3, ap4, standing_by, pinning_by, held_is, equations_are, standing_is, pinned_is, pinning_is, becomes, leads_on}
+use Rattle.replay.proofs.Leaving.{certify-stands, tighten-stands, pin_left, release_left, ask_is, finished_is}
 
 -- a call that comes back as it was passed
 handed-back : (c : Call) (a : Told) → answer_kind a ≡ call_kind c → Handed c (record { call = c; answer = a })
@@ -61,7 +61,7 @@ module _ {G : Type 0} {ground : Plan} {s s' : Study G} {bs cs : List BracketRow}
       below = so.below;
       tolerance = so.tolerance;
       handed = handed;
-      does = λ start h led. let y = says start h led in (y.0, leads-on s s' ground start (new ground c e start h ∷ h) cs x so y.1 y.2);
+      does = λ start h led. let y = says start h led in (y.0, leads_on s s' ground start (new ground c e start h ∷ h) cs x so y.1 y.2);
     }
 
     -- an event that says nothing new of the study
@@ -107,7 +107,7 @@ module _ {G : Type 0} {ground : Plan} {s s' : Study G} {bs cs : List BracketRow}
       (handed-back (Ask i) (Asked r) refl) so grid
       (λ start h led.
       let asking : Plan → State → List BracketRow → Answer BracketRow = λ p k x. answer (ask_check p k (length x) i) (brackets x i) in
-      let answered = ask-is r (ask_check (laid ground s) s.state (length bs) i) (brackets bs i) told in
+      let answered = ask_is r (ask_check (laid ground s) s.state (length bs) i) (brackets bs i) told in
       (answered ∙ ap3 asking (equations_are led) led.state led.grid, refl, refl))
 
   pub count-made :
@@ -184,7 +184,7 @@ module _ {G : Type 0} {ground : Plan} {s s' : Study G} {bs cs : List BracketRow}
       let told' : answer_of r ≡ answer k tt = told ∙ ap3 (λ a b z. answer (pin_checks ground a b i z) tt) (held_is led) led.count et in (
         told',
         ap2 (λ x z. pin_leaves ground x i z) (pinning_is led) et
-            ∙ pin-leaves ground (wide s) start h i t k
+            ∙ pin_left ground (wide s) start h i t k
             ∙ ap (λ a. pinning_by ground (wide s) start (pinned i t a ∷ h)) (sym told'),
         grid ∙ led.grid,
       ))
@@ -201,7 +201,7 @@ module _ {G : Type 0} {ground : Plan} {s s' : Study G} {bs cs : List BracketRow}
       let told' : answer_of r ≡ answer k tt = told ∙ ap (λ a. answer (release_checks ground a i) tt) (held_is led) in (
         told',
         ap (λ x. release_leaves ground x i) (pinning_is led)
-            ∙ release-leaves ground (wide s) start h i k
+            ∙ release_left ground (wide s) start h i k
             ∙ ap (λ a. pinning_by ground (wide s) start (released i a ∷ h)) (sym told'),
         grid ∙ led.grid,
       ))

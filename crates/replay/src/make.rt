@@ -13,7 +13,7 @@ fn relaxed<G: Ground>(
     factor: i64,
     walks: i64,
 ) -> Event
-    ensures { (bs : List BracketRow) → Made (plan study.old.layer.below) study.old bs (Call.Relax temperatures factor walks) result study.new bs }
+    ensures { (bs : List BracketRow) → Made (G.plan study.old.layer.below) study.old bs (Call.Relax temperatures factor walks) result study.new bs }
 {
     let answer = Answer::Relaxed(study.relax(&mut temperatures, factor, walks));
     Event {
@@ -32,7 +32,7 @@ fn raised<G: Ground>(
     margin: i64,
     walks: i64,
 ) -> Event
-    ensures { (bs : List BracketRow) → Made (plan study.old.layer.below) study.old bs (Call.Raise majorant margin walks) result study.new bs }
+    ensures { (bs : List BracketRow) → Made (G.plan study.old.layer.below) study.old bs (Call.Raise majorant margin walks) result study.new bs }
 {
     let answer = Answer::Raised(study.raise(&mut majorant, margin, walks));
     Event {
@@ -51,7 +51,7 @@ fn certified<G: Ground>(
     temperatures: Vec<Temperature>,
     majorant: Vec<Majorant>,
 ) -> Event
-    ensures { Made (plan study.old.layer.below) study.old brackets.old (Call.Certify temperatures majorant) result study.new brackets.new }
+    ensures { Made (G.plan study.old.layer.below) study.old brackets.old (Call.Certify temperatures majorant) result study.new brackets.new }
 {
     let answer = Answer::Certified(study.certify(&temperatures, &majorant, brackets));
     Event {
@@ -69,7 +69,7 @@ pub(crate) fn make<G: Ground>(
     brackets: &mut [BracketRow],
     call: Call,
 ) -> Event
-    ensures { Made (plan study.old.layer.below) study.old brackets.old call result study.new brackets.new }
+    ensures { Made (G.plan study.old.layer.below) study.old brackets.old call result study.new brackets.new }
 {
     match call {
         Call::Relax {

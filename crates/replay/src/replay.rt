@@ -20,7 +20,7 @@ pub fn replay<G: Ground>(
     brackets: &mut [BracketRow],
     calls: Vec<Call>,
 ) -> Result<Vec<Event>, AllocFailed<Vec<Call>>>
-    ensures { MatchResult result (λ events. Replayed (plan study.old.layer.below) study.old brackets.old calls.items events.items study.new brackets.new) (λ e. (e.value ≡ calls) × Same study.old study.new × (brackets.new ≡ brackets.old)) }
+    ensures { MatchResult result (λ events. Replayed (G.plan study.old.layer.below) study.old brackets.old calls.items events.items study.new brackets.new) (λ e. (e.value ≡ calls) × Same study.old study.new × (brackets.new ≡ brackets.old)) }
 {
     let Ok(mut events) = Vec::with_capacity(heap, calls.len()) else {
         return Err(AllocFailed { value: calls });
@@ -34,6 +34,6 @@ pub fn replay<G: Ground>(
 // A new study has the empty history, whatever its bracket grid holds.
 fn has_no_history<G: Ground>(study: &Study<G>, brackets: &[BracketRow])
     requires fresh { Fresh study.now study.now.layer.below study.now.tolerance }
-    requires count { study.now.«open» ≡ free_count (pin_plan study.now.layer.pins.places (plan study.now.layer.below)) }
-    ensures { Led (plan study.now.layer.below) study.now brackets.now [] brackets.now }
+    requires count { study.now.«open» ≡ free_count (pin_plan study.now.layer.pins.places (G.plan study.now.layer.below)) }
+    ensures { Led (G.plan study.now.layer.below) study.now brackets.now [] brackets.now }
 {}

@@ -17,8 +17,8 @@ pub trait Check {
 
 // The first cell at which a check fails. For the crates above.
 pub fn first_failing<C: Check>(shape: Shape, check: &C) -> Option<usize>
-    requires { (k : ℕ) → k < shape.high * shape.wide → ready check.now k }
-    ensures { result ≡ first (fails check.now) (shape.high * shape.wide) }
+    requires { (k : ℕ) → k < shape.high * shape.wide → C.ready check.now k }
+    ensures { result ≡ first (C.fails check.now) (shape.high * shape.wide) }
 {
     'scan: {
         for row in 0..shape.high {

@@ -50,12 +50,12 @@ module _ (p : Plan) (i n w e s l : ℕ) (q : ℤ) (here : free n w e s l q ≡ a
   diag_is = omega (arith, weights_are, loss_is)
 
   module _ (hn : SideOf p i to_north N) (hw : SideOf p i to_west W) (he : SideOf p i to_east E) (hs : SideOf p i to_south S) where
-    pub equation-is :
+    pub equation_is :
         (st : Stencil) → st.north ≡ N.arm → st.west ≡ W.arm → st.east ≡ E.arm → st.south ≡ S.arm →
         st.diagonal ≡ l + N.counts + W.counts + E.counts + S.counts →
         st.source ≡ q +ℤ (N.given +ℤ (W.given +ℤ (E.given +ℤ S.given))) → Equation p i st
     unfolding pull load
-    equation-is st en ew ee es ed eq = record {
+    equation_is st en ew ee es ed eq = record {
       free = subst (λ (c : Cell). T (is_free c)) here tt;
       diagonal = omega (arith, ed, diag_is, hn.counts, hw.counts, he.counts, hs.counts);
       pulls = λ u. rw (eq, en, ew, ee, es, heat_is, dot_is (entry p u))

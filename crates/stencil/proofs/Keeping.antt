@@ -16,11 +16,11 @@ plan-same p q w h c =
     let full : PathP (λ i. length (c i) ≡ w i * h i) p.full q.full = to_path_p (λ i. length (c i) ≡ w i * h i) (ℕ_set _ _ _ _) in
     λ i. record { wide = w i; high = h i; cells = c i; full = full i }
 
-pub kept-plan :
+pub plan_kept :
     (p : Plan) (s : Shape) (records : List Record) → s.wide ≡ p.wide → s.high ≡ p.high →
     ((k : ℕ) → k < size p → meant (get_or records k Void) ≡ at p k) → kept_plan s records ≡ p
 unfolding cells_of
-kept-plan p s records w h same =
+plan_kept p s records w h same =
     let f : ℕ → Cell = λ i. meant (get_or records i Void) in
     let n : s.wide * s.high ≡ size p = rw (w, h) (sym p.full) in
     plan-same (kept_plan s records) p w h

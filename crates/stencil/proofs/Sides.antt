@@ -52,9 +52,9 @@ pub heat_abs : (q : ℤ) → negsuc 999999999999 ≤ℤ q → q ≤ℤ pos 10000
 heat_abs q lo hi = omega (arith, ints)
 
 -- the links toward a neighbour that may lie off the plan
-pub side-at :
+pub side_at :
     (p : Plan) (i c : ℕ) (to : Option ℕ) (b : Bool) (j : ℕ) (s : Side) → to ≡ cond b (Some j) None → SideOf p i (toward p to c) s → SideOf p i (counted p b c j) s
-side-at p i c to b j s e h = subst (λ (ls : List Link). SideOf p i ls s) (by b) (subst (λ (o : Option ℕ). SideOf p i (toward p o c) s) e h)
+side_at p i c to b j s e h = subst (λ (ls : List Link). SideOf p i ls s) (by b) (subst (λ (o : Option ℕ). SideOf p i (toward p o c) s) e h)
   where
     by : (b : Bool) → toward p (cond b (Some j) None) c ≡ counted p b c j
     by true = refl

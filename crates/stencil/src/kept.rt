@@ -43,8 +43,8 @@ impl Ground for Kept<'_> {
 // Reads the records of a ground, in room that is there already.
 pub(crate) fn keep<G: Ground>(ground: &G, records: &mut Vec<Record>)
     requires { 4096 ≤ vec_capacity records.old }
-    ensures count { vec_len records.new ≡ size (plan ground.now) }
-    ensures cells { (k : ℕ) → k < size (plan ground.now) → meant (slice_index_or records.new.items k Void) ≡ at (plan ground.now) k }
+    ensures count { vec_len records.new ≡ size (G.plan ground.now) }
+    ensures cells { (k : ℕ) → k < size (G.plan ground.now) → meant (slice_index_or records.new.items k Void) ≡ at (G.plan ground.now) k }
     ensures capacity { vec_capacity records.new ≡ vec_capacity records.old }
 {
     records.clear();

@@ -18,10 +18,10 @@ fn diagonal(loss: u16, north: Side, west: Side, east: Side, south: Side) -> u16
 }
 
 fn equation<G: Ground>(ground: &G, shape: Shape, index: usize, own: FreeRecord) -> Stencil
-    requires on { OnPlan (plan ground.now) index }
-    requires wide { shape.wide ≡ (plan ground.now).wide }
-    requires here { free own.north own.west own.east own.south own.loss own.heat ≡ at (plan ground.now) index }
-    ensures { Equation (plan ground.now) index result }
+    requires on { OnPlan (G.plan ground.now) index }
+    requires wide { shape.wide ≡ (G.plan ground.now).wide }
+    requires here { free own.north own.west own.east own.south own.loss own.heat ≡ at (G.plan ground.now) index }
+    ensures { Equation (G.plan ground.now) index result }
 {
     let n = look_toward(ground, index, north(shape, index), own.north);
     let w = look_toward(ground, index, west(shape, index), own.west);
@@ -38,10 +38,10 @@ fn equation<G: Ground>(ground: &G, shape: Shape, index: usize, own: FreeRecord) 
 }
 
 fn row<G: Ground>(ground: &G, shape: Shape, index: usize) -> Option<Stencil>
-    requires wide { shape.wide ≡ (plan ground.now).wide }
-    requires few { size (plan ground.now) ≤ 4096 }
+    requires wide { shape.wide ≡ (G.plan ground.now).wide }
+    requires few { size (G.plan ground.now) ≤ 4096 }
     requires near { index < 4096 }
-    ensures { RowOf (plan ground.now) index result }
+    ensures { RowOf (G.plan ground.now) index result }
 {
     match ground.record(index) {
         Record::Free(own) => Some(equation(ground, shape, index, own)),
@@ -52,7 +52,7 @@ fn row<G: Ground>(ground: &G, shape: Shape, index: usize) -> Option<Stencil>
 
 fn lay_rows<G: Ground>(ground: &G, rows: &mut Vec<Option<Stencil>>)
     requires { 4096 ≤ vec_capacity rows.old }
-    ensures stands { Stands (plan ground.now) rows.new.items }
+    ensures stands { Stands (G.plan ground.now) rows.new.items }
     ensures capacity { vec_capacity rows.new ≡ vec_capacity rows.old }
 {
     let shape = ground.shape();
@@ -67,7 +67,7 @@ fn lay_rows<G: Ground>(ground: &G, rows: &mut Vec<Option<Stencil>>)
 pub fn lay<G: Ground>(ground: &G, records: &mut Vec<Record>, rows: &mut Vec<Option<Stencil>>)
     requires kept { 4096 ≤ vec_capacity records.old }
     requires laid { 4096 ≤ vec_capacity rows.old }
-    ensures stands { Stands (plan ground.now) rows.new.items }
+    ensures stands { Stands (G.plan ground.now) rows.new.items }
     ensures kept { vec_capacity records.new ≡ vec_capacity records.old }
     ensures laid { vec_capacity rows.new ≡ vec_capacity rows.old }
 {

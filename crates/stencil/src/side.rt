@@ -61,9 +61,9 @@ pub(crate) fn look_toward<G: Ground>(
     to: Option<usize>,
     weight: u16,
 ) -> Side
-    requires on { OnPlan (plan ground.now) index }
+    requires on { OnPlan (G.plan ground.now) index }
     requires light { weight ≤ 1000 }
-    ensures { SideOf (plan ground.now) index (toward (plan ground.now) to weight) result }
+    ensures { SideOf (G.plan ground.now) index (toward (G.plan ground.now) to weight) result }
 {
     let back = Arm {
         weight: 0,

@@ -35,16 +35,16 @@ pub end_seen :
 end_seen st x n w e s n' w' e' s' v b bn bw be bs en ew ee es =
     large-back x b ∙ v ∙ rw (entry-back n bn ∙ en, entry-back w bw ∙ ew, entry-back e be ∙ ee, entry-back s bs ∙ es) refl
 
-pub tighten-turn :
+pub tighten_turned :
     (d : ℕ) (t : Turn BracketRow) (lo hi low high : ℤ) (old b : BracketRow) → (d ≡ 0 → ⊥) → t ≡ narrow_to (record { lo = lo; hi = hi }) old → old ≡ b →
     lo ≡ int_max b.lo (floor low d) → hi ≡ int_min b.hi (ceiling high d) → t ≡ tighten_turn d low high b
-tighten-turn d t lo hi low high old b some e same l h = e ∙ rw (ne_eqb d 0 some) (rw (same, l, h) refl)
+tighten_turned d t lo hi low high old b some e same l h = e ∙ rw (ne_eqb d 0 some) (rw (same, l, h) refl)
 
 -- the turn of a site is that of the plan which it shows
 module _ (s : Site BracketRow) (p : Plan) (xs : List BracketRow) (i : ℕ) (see : Sees p xs i s) where
-  pub tighten-seen :
+  pub tighten_seen :
       tighten_turn s.stencil.diagonal (site_end (λ b. b.lo) s) (site_end (λ b. b.hi) s) (row_bracket s.old) ≡ tightening p xs i
-  tighten-seen =
+  tighten_seen =
       rw (see.shows.north widest, see.shows.west widest, see.shows.east widest, see.shows.south widest, see.shows.old widest)
       (rw (see.equation.pulls (lows xs), see.equation.pulls (highs xs), see.equation.diagonal) refl)
 

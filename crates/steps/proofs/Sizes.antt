@@ -89,11 +89,11 @@ pub fair_back : (t : Temperature) → FairTemperature t → word t.value ≡ t.v
 fair_back t f = entry-back t.value (fair_abs t f)
 
 -- the sum that code computes over a site's entries
-pub sum-seen :
+pub sum_seen :
     (s : Site Temperature) (x : ℤ) → FairSite FairTemperature s →
     x ≡ s.stencil.source +ℤ (pos s.stencil.north.weight *ℤ word s.north.value +ℤ (pos s.stencil.west.weight *ℤ word s.west.value +ℤ (pos s.stencil.east.weight *ℤ word s.east.value +ℤ pos s.stencil.south.weight *ℤ word s.south.value))) →
     nat_abs x ≤ 13000000000000 → word x ≡ site_sum s
-sum-seen s x f e b =
+sum_seen s x f e b =
     large-back x b ∙ e ∙ rw (fair_back s.north f.north, fair_back s.west f.west, fair_back s.east f.east, fair_back s.south f.south) refl
 
 pub bits_same : (a b : ℤ) → word a ≡ a → word b ≡ b → of_z w64 a ≡ of_z w64 b → a ≡ b

@@ -118,11 +118,11 @@ abbrev told_as : ℕ × ℕ → ℕ → Certificate
 told_as x n = record { rest = x.0; margin = x.1; «open» = n }
 
 -- what an accepted certificate answers and leaves: the numbers measured, and the open cells of the grid as it is left
-pub accept-is :
+pub accept_is :
     (p : Plan) (tolerance tolerance' : ℤ) (k : Check) (s : State) (before : Standing) (x : ℕ × ℕ) (r m n : ℕ) (bs left grid : List BracketRow) →
     accepted (r, m) ≡ answer k x → grid ≡ unless_refused k bs left → tolerance' ≡ tolerance → n ≡ open_count p tolerance' grid →
     (accepted (told_as (r, m) n) ≡ answer k (told_as x (open_count p tolerance left))) × (standing s n ≡ unless_refused k before (standing s (open_count p tolerance left)))
-accept-is p t t' k s before x r m n bs left grid told g w c =
+accept_is p t t' k s before x r m n bs left grid told g w c =
     let q = accepted_is k (r, m) x told in
     let same : grid ≡ left = g ∙ ap (λ j. unless_refused j bs left) q.0 in
     let count : n ≡ open_count p t left = c ∙ ap (λ u. open_count p u grid) w ∙ ap (open_count p t) same in (
@@ -136,9 +136,9 @@ module _ (p : Plan) (tolerance : ℤ) (s : State) (us : List Temperature) (ws : 
   accepting = certificate_check p b us ws bs
 
   module _ (e : length_check p (length us) ≡ clear) (f : length_check p (length ws) ≡ clear) (g : length_check p (length bs) ≡ clear) (q : b ≡ basis_of s) where
-    pub certify-is :
+    pub certify_is :
         (answer accepting (certificate_of p tolerance b us ws bs) ≡ certify_answer p tolerance s us ws bs) × (unless_refused accepting bs (written p b us ws bs) ≡ certify_grid p s us ws bs)
-    certify-is = (rw (e, f, g, q) refl, rw (e, f, g, q) refl)
+    certify_is = (rw (e, f, g, q) refl, rw (e, f, g, q) refl)
 
     pub certify-stands :
         (s' : State) (before : ℕ) → s' ≡ Proved →

@@ -40,12 +40,12 @@ factor k = number k (pos 1) (pos 199)
 abbrev pub margin : ℤ → Number
 margin g = number g (pos 1) (pos 10000)
 
-abbrev pub tooHot : Plan → List Temperature → ℕ → Bool
-tooHot p us i = is_free_at p i && outside (negsuc 999999999) (pos 1000000000) (temperatures us i)
+abbrev pub too_hot : Plan → List Temperature → ℕ → Bool
+too_hot p us i = is_free_at p i && outside (negsuc 999999999) (pos 1000000000) (temperatures us i)
 
 -- Relaxing by k hundredths, at most n walks.
 abbrev pub relax_check : Plan → List Temperature → ℤ → ℤ → Check
-relax_check p us k n = run_check p (length us) (factor k) n then at_first (first (tooHot p us) (size p)) (fault Call 10)
+relax_check p us k n = run_check p (length us) (factor k) n then at_first (first (too_hot p us) (size p)) (fault Call 10)
 
 abbrev pub relax_answer : Plan → List Temperature → ℤ → ℤ → Answer (ℕ × ℕ)
 relax_answer p us k n = answer (relax_check p us k n) (counts_of (relax_run p k (unsigned_abs n) us))

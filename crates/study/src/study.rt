@@ -38,7 +38,7 @@ impl<G: Ground> Study<G> {
     // A study that is unproved and has no pin. It takes its memory here and nowhere else; where there
     // is none, the ground comes back.
     pub fn new(heap: Global, ground: G, tolerance: Tolerance) -> Result<Study<G>, AllocFailed<G>>
-        ensures { MatchResult result (λ s. Fresh s ground tolerance × (s.«open» ≡ free_count (pin_plan s.layer.pins.places (plan ground)))) (λ e. e.value ≡ ground) }
+        ensures { MatchResult result (λ s. Fresh s ground tolerance × (s.«open» ≡ free_count (pin_plan s.layer.pins.places (G.plan ground)))) (λ e. e.value ≡ ground) }
     {
         let Ok(records) = Vec::with_capacity(heap, 4096) else {
             return Err(AllocFailed { value: ground });
@@ -59,15 +59,15 @@ impl<G: Ground> Study<G> {
     }
 
     pub fn shape(&self) -> Shape
-        ensures wide { result.wide ≡ (plan self.now.layer.below).wide }
-        ensures high { result.high ≡ (plan self.now.layer.below).high }
+        ensures wide { result.wide ≡ (G.plan self.now.layer.below).wide }
+        ensures high { result.high ≡ (G.plan self.now.layer.below).high }
     {
         self.layer.shape()
     }
 
     // Whether a cell is free in the study's equations.
     pub fn is_free(&self, cell: usize) -> bool
-        ensures { result ≡ is_free_at (pin_plan self.now.layer.pins.places (plan self.now.layer.below)) cell }
+        ensures { result ≡ is_free_at (pin_plan self.now.layer.pins.places (G.plan self.now.layer.below)) cell }
     {
         match self.layer.record(cell) {
             Record::Free(_) => true,
@@ -86,7 +86,7 @@ impl<G: Ground> Study<G> {
 
     // A grid must have an entry for each cell.
     fn sized(&self, length: usize) -> Result<Shape, Refusal>
-        ensures { MatchResult result (λ s. (length_check (pin_plan self.now.layer.pins.places (plan self.now.layer.below)) length ≡ clear) × Fits s (pin_plan self.now.layer.pins.places (plan self.now.layer.below)) length) (λ e. length_check (pin_plan self.now.layer.pins.places (plan self.now.layer.below)) length ≡ refuse (fault_of e)) }
+        ensures { MatchResult result (λ s. (length_check (pin_plan self.now.layer.pins.places (G.plan self.now.layer.below)) length ≡ clear) × Fits s (pin_plan self.now.layer.pins.places (G.plan self.now.layer.below)) length) (λ e. length_check (pin_plan self.now.layer.pins.places (G.plan self.now.layer.below)) length ≡ refuse (fault_of e)) }
     {
         let shape = self.shape();
         if length != shape.cells() {
@@ -98,7 +98,7 @@ impl<G: Ground> Study<G> {
     // What a run with a number of its own is checked for first: its grid's length, that number and
     // its walks.
     fn ready(&self, length: usize, number: i64, most: i64, walks: i64) -> Result<Shape, Refusal>
-        ensures { MatchResult result (λ s. Ready s (pin_plan self.now.layer.pins.places (plan self.now.layer.below)) length (limited number (pos 1) most) walks) (λ e. run_check (pin_plan self.now.layer.pins.places (plan self.now.layer.below)) length (limited number (pos 1) most) walks ≡ refuse (fault_of e)) }
+        ensures { MatchResult result (λ s. Ready s (pin_plan self.now.layer.pins.places (G.plan self.now.layer.below)) length (limited number (pos 1) most) walks) (λ e. run_check (pin_plan self.now.layer.pins.places (G.plan self.now.layer.below)) length (limited number (pos 1) most) walks ≡ refuse (fault_of e)) }
     {
         let shape = self.sized(length)?;
         within(1, number, 1, most)?;
@@ -108,7 +108,7 @@ impl<G: Ground> Study<G> {
 
     // Lays out the equations as they now stand.
     fn lay_out(&mut self)
-        ensures stands { Stands (pin_plan self.old.layer.pins.places (plan self.old.layer.below)) self.new.rows.items }
+        ensures stands { Stands (pin_plan self.old.layer.pins.places (G.plan self.old.layer.below)) self.new.rows.items }
         ensures same { Same self.old self.new }
     {
         lay(&self.layer, &mut self.records, &mut self.rows);
@@ -122,8 +122,8 @@ impl<G: Ground> Study<G> {
         factor: i64,
         walks: i64,
     ) -> Result<(usize, usize), Refusal>
-        ensures answer { answer_of result ≡ relax_answer (pin_plan self.old.layer.pins.places (plan self.old.layer.below)) grid.old factor walks }
-        ensures grid { grid.new ≡ relax_grid (pin_plan self.old.layer.pins.places (plan self.old.layer.below)) grid.old factor walks }
+        ensures answer { answer_of result ≡ relax_answer (pin_plan self.old.layer.pins.places (G.plan self.old.layer.below)) grid.old factor walks }
+        ensures grid { grid.new ≡ relax_grid (pin_plan self.old.layer.pins.places (G.plan self.old.layer.below)) grid.old factor walks }
         ensures study { Same self.old self.new }
     {
         let shape = self.ready(grid.len(), factor, 199, walks)?;
@@ -138,8 +138,8 @@ impl<G: Ground> Study<G> {
         margin: i64,
         walks: i64,
     ) -> Result<Raised, Refusal>
-        ensures answer { answer_of result ≡ raise_answer (pin_plan self.old.layer.pins.places (plan self.old.layer.below)) grid.old margin walks }
-        ensures grid { grid.new ≡ raise_grid (pin_plan self.old.layer.pins.places (plan self.old.layer.below)) grid.old margin walks }
+        ensures answer { answer_of result ≡ raise_answer (pin_plan self.old.layer.pins.places (G.plan self.old.layer.below)) grid.old margin walks }
+        ensures grid { grid.new ≡ raise_grid (pin_plan self.old.layer.pins.places (G.plan self.old.layer.below)) grid.old margin walks }
         ensures study { Same self.old self.new }
     {
         let shape = self.ready(grid.len(), margin, 10_000, walks)?;
@@ -157,12 +157,12 @@ impl<G: Ground> Study<G> {
         basis: Basis,
         state: State,
     ) -> Result<Certificate, Refusal>
-        requires temperatures { Fits shape (pin_plan self.old.layer.pins.places (plan self.old.layer.below)) (length temperatures.now) }
-        requires majorant { Fits shape (pin_plan self.old.layer.pins.places (plan self.old.layer.below)) (length majorant.now) }
-        requires brackets { Fits shape (pin_plan self.old.layer.pins.places (plan self.old.layer.below)) (length brackets.old) }
-        ensures answer { answer_of result ≡ answer (certificate_check (pin_plan self.old.layer.pins.places (plan self.old.layer.below)) basis temperatures.now majorant.now brackets.old) (certificate_of (pin_plan self.old.layer.pins.places (plan self.old.layer.below)) self.old.tolerance.width basis temperatures.now majorant.now brackets.old) }
-        ensures grid { brackets.new ≡ unless_refused (certificate_check (pin_plan self.old.layer.pins.places (plan self.old.layer.below)) basis temperatures.now majorant.now brackets.old) brackets.old (written (pin_plan self.old.layer.pins.places (plan self.old.layer.below)) basis temperatures.now majorant.now brackets.old) }
-        ensures study { Becomes self.old self.new (unless_refused (certificate_check (pin_plan self.old.layer.pins.places (plan self.old.layer.below)) basis temperatures.now majorant.now brackets.old) (standing_of self.old) (standing state (open_count (pin_plan self.old.layer.pins.places (plan self.old.layer.below)) self.old.tolerance.width (written (pin_plan self.old.layer.pins.places (plan self.old.layer.below)) basis temperatures.now majorant.now brackets.old)))) }
+        requires temperatures { Fits shape (pin_plan self.old.layer.pins.places (G.plan self.old.layer.below)) (length temperatures.now) }
+        requires majorant { Fits shape (pin_plan self.old.layer.pins.places (G.plan self.old.layer.below)) (length majorant.now) }
+        requires brackets { Fits shape (pin_plan self.old.layer.pins.places (G.plan self.old.layer.below)) (length brackets.old) }
+        ensures answer { answer_of result ≡ answer (certificate_check (pin_plan self.old.layer.pins.places (G.plan self.old.layer.below)) basis temperatures.now majorant.now brackets.old) (certificate_of (pin_plan self.old.layer.pins.places (G.plan self.old.layer.below)) self.old.tolerance.width basis temperatures.now majorant.now brackets.old) }
+        ensures grid { brackets.new ≡ unless_refused (certificate_check (pin_plan self.old.layer.pins.places (G.plan self.old.layer.below)) basis temperatures.now majorant.now brackets.old) brackets.old (written (pin_plan self.old.layer.pins.places (G.plan self.old.layer.below)) basis temperatures.now majorant.now brackets.old) }
+        ensures study { Becomes self.old self.new (unless_refused (certificate_check (pin_plan self.old.layer.pins.places (G.plan self.old.layer.below)) basis temperatures.now majorant.now brackets.old) (standing_of self.old) (standing state (open_count (pin_plan self.old.layer.pins.places (G.plan self.old.layer.below)) self.old.tolerance.width (written (pin_plan self.old.layer.pins.places (G.plan self.old.layer.below)) basis temperatures.now majorant.now brackets.old)))) }
     {
         self.lay_out();
         let (rest, margin) = certify(shape, &self.rows, temperatures, majorant, brackets, basis)?;
@@ -183,9 +183,9 @@ impl<G: Ground> Study<G> {
         majorant: &[Majorant],
         brackets: &mut [BracketRow],
     ) -> Result<Certificate, Refusal>
-        ensures answer { answer_of result ≡ certify_answer (pin_plan self.old.layer.pins.places (plan self.old.layer.below)) self.old.tolerance.width self.old.state temperatures.now majorant.now brackets.old }
-        ensures grid { brackets.new ≡ certify_grid (pin_plan self.old.layer.pins.places (plan self.old.layer.below)) self.old.state temperatures.now majorant.now brackets.old }
-        ensures study { Becomes self.old self.new (certify_standing (pin_plan self.old.layer.pins.places (plan self.old.layer.below)) self.old.tolerance.width (standing_of self.old) temperatures.now majorant.now brackets.old) }
+        ensures answer { answer_of result ≡ certify_answer (pin_plan self.old.layer.pins.places (G.plan self.old.layer.below)) self.old.tolerance.width self.old.state temperatures.now majorant.now brackets.old }
+        ensures grid { brackets.new ≡ certify_grid (pin_plan self.old.layer.pins.places (G.plan self.old.layer.below)) self.old.state temperatures.now majorant.now brackets.old }
+        ensures study { Becomes self.old self.new (certify_standing (pin_plan self.old.layer.pins.places (G.plan self.old.layer.below)) self.old.tolerance.width (standing_of self.old) temperatures.now majorant.now brackets.old) }
     {
         self.sized(temperatures.len())?;
         self.sized(majorant.len())?;
@@ -202,10 +202,10 @@ impl<G: Ground> Study<G> {
         most: usize,
         state: State,
     ) -> Result<(usize, usize), WalkFault>
-        requires { Fits shape (pin_plan self.old.layer.pins.places (plan self.old.layer.below)) (length brackets.old) }
-        ensures answer { walk_answer_of result ≡ answer (at_first (tighten_run (pin_plan self.old.layer.pins.places (plan self.old.layer.below)) most brackets.old).stopped (fault Walk 9)) (counts_of (tighten_run (pin_plan self.old.layer.pins.places (plan self.old.layer.below)) most brackets.old)) }
-        ensures grid { brackets.new ≡ (tighten_run (pin_plan self.old.layer.pins.places (plan self.old.layer.below)) most brackets.old).grid }
-        ensures study { Becomes self.old self.new (standing state (open_count (pin_plan self.old.layer.pins.places (plan self.old.layer.below)) self.old.tolerance.width (tighten_run (pin_plan self.old.layer.pins.places (plan self.old.layer.below)) most brackets.old).grid)) }
+        requires { Fits shape (pin_plan self.old.layer.pins.places (G.plan self.old.layer.below)) (length brackets.old) }
+        ensures answer { walk_answer_of result ≡ answer (at_first (tighten_run (pin_plan self.old.layer.pins.places (G.plan self.old.layer.below)) most brackets.old).stopped (fault Walk 9)) (counts_of (tighten_run (pin_plan self.old.layer.pins.places (G.plan self.old.layer.below)) most brackets.old)) }
+        ensures grid { brackets.new ≡ (tighten_run (pin_plan self.old.layer.pins.places (G.plan self.old.layer.below)) most brackets.old).grid }
+        ensures study { Becomes self.old self.new (standing state (open_count (pin_plan self.old.layer.pins.places (G.plan self.old.layer.below)) self.old.tolerance.width (tighten_run (pin_plan self.old.layer.pins.places (G.plan self.old.layer.below)) most brackets.old).grid)) }
     {
         self.lay_out();
         let ran = tighten_laid(shape, &self.rows, brackets, most);
@@ -221,9 +221,9 @@ impl<G: Ground> Study<G> {
         brackets: &mut [BracketRow],
         walks: i64,
     ) -> Result<(usize, usize), Refusal>
-        ensures answer { answer_of result ≡ tighten_answer (pin_plan self.old.layer.pins.places (plan self.old.layer.below)) self.old.state brackets.old walks }
-        ensures grid { brackets.new ≡ tighten_grid (pin_plan self.old.layer.pins.places (plan self.old.layer.below)) self.old.state brackets.old walks }
-        ensures study { Becomes self.old self.new (tighten_standing (pin_plan self.old.layer.pins.places (plan self.old.layer.below)) self.old.tolerance.width (standing_of self.old) brackets.old walks) }
+        ensures answer { answer_of result ≡ tighten_answer (pin_plan self.old.layer.pins.places (G.plan self.old.layer.below)) self.old.state brackets.old walks }
+        ensures grid { brackets.new ≡ tighten_grid (pin_plan self.old.layer.pins.places (G.plan self.old.layer.below)) self.old.state brackets.old walks }
+        ensures study { Becomes self.old self.new (tighten_standing (pin_plan self.old.layer.pins.places (G.plan self.old.layer.below)) self.old.tolerance.width (standing_of self.old) brackets.old walks) }
     {
         let shape = self.sized(brackets.len())?;
         let (state, _) = meets(self.state, Event::Tightening)?;
@@ -234,7 +234,7 @@ impl<G: Ground> Study<G> {
 
     // The bracket of a free cell, while brackets are proved.
     pub fn bracket(&self, brackets: &[BracketRow], cell: usize) -> Result<Bracket, Refusal>
-        ensures { MatchResult result (λ b. (ask_check (pin_plan self.now.layer.pins.places (plan self.now.layer.below)) self.now.state (length brackets.now) cell ≡ clear) × (plain b ≡ bracketsOf brackets.now cell)) (λ e. ask_check (pin_plan self.now.layer.pins.places (plan self.now.layer.below)) self.now.state (length brackets.now) cell ≡ refuse (fault_of e)) }
+        ensures { MatchResult result (λ b. (ask_check (pin_plan self.now.layer.pins.places (G.plan self.now.layer.below)) self.now.state (length brackets.now) cell ≡ clear) × (plain b ≡ bracketsOf brackets.now cell)) (λ e. ask_check (pin_plan self.now.layer.pins.places (G.plan self.now.layer.below)) self.now.state (length brackets.now) cell ≡ refuse (fault_of e)) }
     {
         self.sized(brackets.len())?;
         match self.state {
@@ -252,8 +252,8 @@ impl<G: Ground> Study<G> {
 
     // Holds a free cell at a temperature. What was proved is proved no more.
     pub fn pin(&mut self, cell: usize, temperature: i64) -> Result<(), Refusal>
-        ensures answer { answer_of result ≡ answer (pin_check (plan self.old.layer.below) self.old.layer.pins.places cell temperature) tt }
-        ensures study { Repinned self.old self.new (pin_leaves (plan self.old.layer.below) (pinning_of self.old) cell temperature) }
+        ensures answer { answer_of result ≡ answer (pin_check (G.plan self.old.layer.below) self.old.layer.pins.places cell temperature) tt }
+        ensures study { Repinned self.old self.new (pin_leaves (G.plan self.old.layer.below) (pinning_of self.old) cell temperature) }
     {
         let (state, _) = meets(self.state, Event::Pin)?;
         self.layer.pin(cell, temperature)?;
@@ -263,8 +263,8 @@ impl<G: Ground> Study<G> {
 
     // Frees a pinned cell again. What was proved is proved no more.
     pub fn release(&mut self, cell: usize) -> Result<(), Refusal>
-        ensures answer { answer_of result ≡ answer (release_check (plan self.old.layer.below) self.old.layer.pins.places cell) tt }
-        ensures study { Repinned self.old self.new (release_leaves (plan self.old.layer.below) (pinning_of self.old) cell) }
+        ensures answer { answer_of result ≡ answer (release_check (G.plan self.old.layer.below) self.old.layer.pins.places cell) tt }
+        ensures study { Repinned self.old self.new (release_leaves (G.plan self.old.layer.below) (pinning_of self.old) cell) }
     {
         let (state, _) = meets(self.state, Event::Release)?;
         self.layer.release(cell)?;
@@ -276,7 +276,7 @@ impl<G: Ground> Study<G> {
     fn begin(&mut self, state: State)
         ensures layer { self.new.layer ≡ self.old.layer }
         ensures tolerance { self.new.tolerance ≡ self.old.tolerance }
-        ensures stands { standing_of self.new ≡ standing state (free_count (pin_plan self.old.layer.pins.places (plan self.old.layer.below))) }
+        ensures stands { standing_of self.new ≡ standing state (free_count (pin_plan self.old.layer.pins.places (G.plan self.old.layer.below))) }
     {
         self.state = state;
         self.open = free_cells(&self.layer);

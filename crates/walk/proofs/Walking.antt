@@ -106,9 +106,9 @@ module _
         (h : Shows xs i st s)
         (said : (p : Plan) (ys : List E) (j : ℕ) → Sees p ys j s → t ≡ step p ys j)
       where
-        pub visit-some :
+        pub visit_some :
             (x : Turn E) → t ≡ x → (p : Plan) → Stands p rows → walk (step p) (is_free_at p) (i + 1) xs₀ ≡ turned (step p) (is_free_at p) (record { grid = xs; changed = m; stopped = None }) i x
-        visit-some x same p stands =
+        visit_some x same p stands =
             let q = row-free p rows i st stands lt e in
             let sees : Sees p xs i s = record {
               equation = subst (Equation p i) (sym h.stencil) q;
@@ -118,4 +118,4 @@ module _
 
         pub visit_stop : t ≡ Stop → (p : Plan) → Stands p rows → walk (step p) (is_free_at p) (size p) xs₀ ≡ record { grid = xs; changed = m; stopped = Some i }
         visit_stop same p stands =
-            walk-stopped (step p) (is_free_at p) xs₀ (record { grid = xs; changed = m; stopped = Some i }) i (i + 1) (size p) (visit-some Stop same p stands) refl (omega (arith, stands.count))
+            walk-stopped (step p) (is_free_at p) xs₀ (record { grid = xs; changed = m; stopped = Some i }) i (i + 1) (size p) (visit_some Stop same p stands) refl (omega (arith, stands.count))

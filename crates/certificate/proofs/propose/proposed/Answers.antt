@@ -3,7 +3,7 @@ use Rattle.section.specs.Plan.{Plan}
 use Rattle.stencil.specs.Stencils.{Stands}
 use Rattle.certificate.specs.AtRows.{MeasureOf}
 use Rattle.certificate.proofs.Clears.{mild_walkable, fair_walkable}
-use Rattle.certificate.proofs.Passing.{useful-of, certifiable-of}
+use Rattle.certificate.proofs.Passing.{useful_of, certifiable_of}
 use Rattle.certificate.proofs.propose.proposed.Goals as goal
 
 pub margins_enough-requires : goal.margins_enough-requires
@@ -32,7 +32,7 @@ spreads_near-requires c =
     record {
       laid = l;
       fair = fair_walkable c.args.shape rows ws l (sym (c.in_ok-majorant_fair.ensures p l.stands));
-      some = useful-of p rows us ws m l.stands of (sym (c.in_ok-margins_enough.ensures p l.stands));
+      some = useful_of p rows us ws m l.stands of (sym (c.in_ok-margins_enough.ensures p l.stands));
     }
 
 pub returns : goal.returns
@@ -45,7 +45,7 @@ returns c =
     let t = c.requires.temperatures in
     let of : (p : Plan) → Stands p rows → MeasureOf p us ws m = λ p st. record { rest_is = c.measured-measure.ensures.rest p st; margin_is = c.measured-measure.ensures.margin p st } in
     record {
-      certifiable = certifiable-of l.plan rows us ws m l.stands (of l.plan l.stands)
+      certifiable = certifiable_of l.plan rows us ws m l.stands (of l.plan l.stands)
           (mild_walkable c.args.shape rows us t (sym (c.in_ok-temperatures_fair.ensures t.plan t.stands)))
           (fair_walkable c.args.shape rows ws l (sym (c.in_ok-majorant_fair.ensures l.plan l.stands)))
           (sym (c.in_ok-margins_enough.ensures l.plan l.stands)) (sym (c.in_ok-spreads_near.ensures l.plan us l.stands (of l.plan l.stands)));

@@ -1,5 +1,5 @@
 use Rattle.steps.specs.AtSites.{site_sum}
-use Rattle.steps.proofs.Sizes.{own_abs, sum-seen}
+use Rattle.steps.proofs.Sizes.{own_abs, sum_seen}
 use Rattle.measure.proofs.Residuals.{own-fits, gap-fits, gap_is, gap-small}
 use Rattle.measure.proofs.at.residual.Goals as goal
 
@@ -17,7 +17,7 @@ overflow_sub-sum c =
 pub returns : goal.returns
 returns c =
     let s = c.args.site.now in
-    let sum = sum-seen s c.pull-sum.result c.requires c.pull-sum.ensures.value c.pull-sum.ensures.size in
+    let sum = sum_seen s c.pull-sum.result c.requires c.pull-sum.ensures.value c.pull-sum.ensures.size in
     let few = s.stencil.diagonal_most in
     let old = own_abs s.old c.requires.old in
     record {

@@ -2,7 +2,7 @@ use Rattle.std.proofs.Common.{◌≡◌, sym, ap, ◌∙◌, arith, w64, of_z}
 use Rattle.number.proofs.Words.{word}
 use Rattle.steps.specs.Steps.{relaxed_to}
 use Rattle.steps.specs.AtSites.{site_sum}
-use Rattle.steps.proofs.Sizes.{fair_abs, fair_back, own_abs, entry-word, large-back, limit-back, sum-seen, bits_same}
+use Rattle.steps.proofs.Sizes.{fair_abs, fair_back, own_abs, entry-word, large-back, limit-back, sum_seen, bits_same}
 use Rattle.steps.proofs.Turning.{turn_alone, turn_stay, turn_put}
 use Rattle.steps.proofs.relax.relax_at.Goals as goal
 
@@ -31,7 +31,7 @@ returns-then-diagonal-eq0 c = record {
 pub returns-then-value-old : goal.returns-then-value-old
 returns-then-value-old c =
     let s = c.args.site.now in
-    let sum = sum-seen s c.pull-sum.result c.requires c.pull-sum.ensures.value c.pull-sum.ensures.size in
+    let sum = sum_seen s c.pull-sum.result c.requires c.pull-sum.ensures.value c.pull-sum.ensures.size in
     let old = fair_back s.old c.requires.old in
     let new : c.relaxed-value.result ≡ relaxed_to c.args.factor.factor s.stencil.diagonal (site_sum s) s.old.value = rw (sum, old) at c.relaxed-value.ensures.value in
     let back = limit-back c.relaxed-value.result c.relaxed-value.ensures.least c.relaxed-value.ensures.most in
@@ -44,7 +44,7 @@ returns-then-value-old c =
 pub returns-else-value-old : goal.returns-else-value-old
 returns-else-value-old c =
     let s = c.args.site.now in
-    let sum = sum-seen s c.pull-sum.result c.requires c.pull-sum.ensures.value c.pull-sum.ensures.size in
+    let sum = sum_seen s c.pull-sum.result c.requires c.pull-sum.ensures.value c.pull-sum.ensures.size in
     let old = fair_back s.old c.requires.old in
     let new : c.relaxed-value.result ≡ relaxed_to c.args.factor.factor s.stencil.diagonal (site_sum s) s.old.value = rw (sum, old) at c.relaxed-value.ensures.value in
     let back = limit-back c.relaxed-value.result c.relaxed-value.ensures.least c.relaxed-value.ensures.most in

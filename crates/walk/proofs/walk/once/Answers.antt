@@ -2,7 +2,7 @@ use Rattle.std.proofs.Common.{◌≡◌, ℕ, ◌<◌, List, length, get_or, Som
 use Rattle.stencil.specs.declared.types.Stencil.{Stencil}
 use Rattle.walk.specs.Sites.{Keeps}
 use Rattle.walk.specs.declared.types.Turn.TheVariants.{Stay, Put}
-use Rattle.walk.proofs.Walking.{read, row-free, inside, fair_site, put_walkable, visit_none, visit-some, visit_stop}
+use Rattle.walk.proofs.Walking.{read, row-free, inside, fair_site, put_walkable, visit_none, visit_some, visit_stop}
 use Rattle.walk.proofs.walk.once.Goals as goal
 use Rattle.walk.proofs.walk.once.Goals.{in-None, in-Some+in-Stay, in-Some+in-Put}
 
@@ -64,7 +64,7 @@ loop-index-preserved g c =
         omega (arith, w.changed-is, c.loop-index.invariant.0),
         rw w.grid-is c.loop-index.invariant.1,
         rw (w.grid-is, w.changed-is)
-            (visit-some step rows c.args.grid.now c.loop-index.grid i c.loop-index.changed lt c.loop-index.invariant.2
+            (visit_some step rows c.args.grid.now c.loop-index.grid i c.loop-index.changed lt c.loop-index.invariant.2
             w.in-Some.stencil w.look.result w.turn.result
             (row_is rows i c.index-rows-index.result (Some w.in-Some.stencil) lt c.index-rows-index.is w.in-Some.is) w.look.ensures w.turn.ensures.value Stay w.in-Stay.is),
       )
@@ -75,7 +75,7 @@ loop-index-preserved g c =
             omega (arith, w.changed-is, c.loop-index.invariant.0),
             rw w.grid-is (put_walkable fair rows c.loop-index.grid v i w.in-Put.entry (inside fair rows c.loop-index.grid v i q.free) (subst (Keeps fair) w.in-Put.is w.turn.ensures.kept)),
             rw (w.grid-is, w.changed-is)
-                (visit-some step rows c.args.grid.now c.loop-index.grid i c.loop-index.changed lt c.loop-index.invariant.2
+                (visit_some step rows c.args.grid.now c.loop-index.grid i c.loop-index.changed lt c.loop-index.invariant.2
                 w.in-Some.stencil w.look.result w.turn.result e w.look.ensures w.turn.ensures.value (Put w.in-Put.entry) w.in-Put.is),
           )
     ]

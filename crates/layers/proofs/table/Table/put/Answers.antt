@@ -2,13 +2,14 @@ use Rattle.std.proofs.Common.{◌∙◌, length-set}
 use Rattle.layers.proofs.Writes.{entered, entered-apart}
 use Rattle.layers.proofs.table.Table.put.Goals as goal
 
-pub invariant-of-self : goal.invariant-of-self
-invariant-of-self g c =
+pub invariant_of-self : goal.invariant_of-self
+invariant_of-self g c =
     let table = c.args.self.now in
-    let told = c.in-Some.ensures in (
-      length-set table.places _ _ ∙ table.full,
-      (entered-apart g.row.N table.places c.in-Some.place (record { cell = c.args.cell; laid = c.args.laid }) table.full table.once told.0 told.1, tt),
-    )
+    let told = c.in-Some.ensures in
+    record {
+      full = length-set table.places _ _ ∙ table.full;
+      once = entered-apart g.row.N table.places c.in-Some.place (record { cell = c.args.cell; laid = c.args.laid }) table.full table.once told.0 told.1;
+    }
 
 pub returns-in-Some : goal.returns-in-Some
 returns-in-Some g c =

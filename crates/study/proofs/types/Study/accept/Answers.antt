@@ -8,7 +8,7 @@ use Rattle.certificate.specs.Certifying.{certificate_check, written}
 use Rattle.study.specs.Calls.{certificate_of, standing}
 use Rattle.study.specs.Studies.{standing_of}
 use Rattle.certificate.specs.Counting.{open_count}
-use Rattle.study.proofs.Checks.{refused_is, accept-is}
+use Rattle.study.proofs.Checks.{refused_is, accept_is}
 use Rattle.study.proofs.types.Study.accept.Goals as goal
 
 pub certify-requires : goal.certify-requires
@@ -52,7 +52,7 @@ returns g c =
     let st : Stands p c.deref.result.now = subst (Stands p) (sym c.deref.ensures.value) c.lay_out.ensures.stands in
     let again : Stands p c.deref-2.result.now = subst (Stands p) (sym c.deref-2.ensures.value) c.lay_out.ensures.stands in
     let told =
-    accept-is p c.args.self.now.tolerance.width c.lay_out.new.self.tolerance.width (certificate_check p b us ws bs) c.args.state (standing_of c.args.self.now)
+    accept_is p c.args.self.now.tolerance.width c.lay_out.new.self.tolerance.width (certificate_check p b us ws bs) c.args.state (standing_of c.args.self.now)
     (rest p us, nat_abs (margin p ws)) c.in_ok-rest.rest c.in_ok-rest.margin c.count_open-self.result bs (written p b us ws bs) c.certify.new.brackets
     (c.in_ok-rest.ensures.answer p st) (c.certify.ensures.grid p st) (ap (λ t. t.width) c.lay_out.ensures.same.tolerance) (c.count_open-self.ensures p again) in
     record {

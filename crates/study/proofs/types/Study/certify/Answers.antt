@@ -1,6 +1,6 @@
 use Rattle.std.proofs.Common.{◌∙◌}
 use Rattle.layers.specs.Layers.{pin_plan}
-use Rattle.study.proofs.Checks.{certify-is, certify-stands}
+use Rattle.study.proofs.Checks.{certify_is, certify-stands}
 use Rattle.study.proofs.types.Study.certify.Goals as goal
 
 pub returns : goal.returns
@@ -15,7 +15,7 @@ returns g c =
     let f = c.in_ok-sized-2.ensures.0 in
     let h = c.in_ok-shape.ensures.0 in
     let met = c.in_ok-state.ensures in
-    let told = certify-is p t s us ws bs c.in_ok-state.basis e f h met.2 in
+    let told = certify_is p t s us ws bs c.in_ok-state.basis e f h met.2 in
     let k = c.accept.ensures.study in
     record {
       answer = c.accept.ensures.answer ∙ told.0;
