@@ -17,8 +17,8 @@ pub fn run<E: Copy, R: Rule<E>>(
     grid: &mut [E],
     most: usize,
 ) -> Result<(usize, usize), Stopped>
-    requires { Walkable (fair rule.now) rows.now grid.old }
-    ensures { (p : Plan) → Stands p rows.now → ran_as grid.new result ≡ run_of (step rule.now p) (is_free_at p) (size p) most grid.old }
+    requires { Walkable (R.fair rule.now) rows.now grid.old }
+    ensures { (p : Plan) → Stands p rows.now → ran_as grid.new result ≡ run_of (R.step rule.now p) (is_free_at p) (size p) most grid.old }
 {
     let mut changed = 0;
     for done in 0..most {

@@ -33,9 +33,9 @@ pub(crate) fn once<E: Copy, R: Rule<E>>(
     rows: &[Option<Stencil>],
     grid: &mut [E],
 ) -> Walked
-    requires { Walkable (fair rule.now) rows.now grid.old }
-    ensures value { (p : Plan) → Stands p rows.now → walked_as grid.new result ≡ walk_of (step rule.now p) (is_free_at p) (size p) grid.old }
-    ensures kept { Walkable (fair rule.now) rows.now grid.new }
+    requires { Walkable (R.fair rule.now) rows.now grid.old }
+    ensures value { (p : Plan) → Stands p rows.now → walked_as grid.new result ≡ walk_of (R.step rule.now p) (is_free_at p) (size p) grid.old }
+    ensures kept { Walkable (R.fair rule.now) rows.now grid.new }
 {
     let mut changed = 0;
     for (index, row) in rows.iter().enumerate() {
