@@ -4,7 +4,7 @@ use Rattle.section.specs.Reading.{plain, row_bracket}
 use Rattle.number.proofs.Words.{word}
 use Rattle.steps.specs.AtSites.{site_end}
 use Rattle.steps.proofs.Sizes.{entry-word, entry-back}
-use Rattle.steps.proofs.Ends.{low_abs, high_abs, end_seen, tighten_turn}
+use Rattle.steps.proofs.Ends.{low_abs, high_abs, end_seen, tighten_turned}
 use Rattle.steps.proofs.tighten.tighten_at.Goals as goal
 
 pub pull-low-requires : goal.pull-low-requires
@@ -33,6 +33,6 @@ returns c =
     let is = c.bracket-old.ensures in
     let lo = to_z-of_z w64 c.lower-lo.result fl ∙ c.lower-lo.ensures ∙ rw (entry-back old.lo (low_abs old) ∙ ap (λ r. r.lo) is, low) refl in
     let hi = to_z-of_z w64 c.upper-hi.result fh ∙ c.upper-hi.ensures ∙ rw (entry-back old.hi (high_abs old) ∙ ap (λ r. r.hi) is, high) refl in
-    tighten_turn c.args.site.now.stencil.diagonal c.narrowed.result (word c.lower-lo.result) (word c.upper-hi.result)
+    tighten_turned c.args.site.now.stencil.diagonal c.narrowed.result (word c.lower-lo.result) (word c.upper-hi.result)
     (site_end (λ b. b.lo) c.args.site.now) (site_end (λ b. b.hi) c.args.site.now) (plain old) (row_bracket c.args.site.now.old)
     c.if-diagonal-eq0.false c.narrowed.ensures is lo hi
