@@ -1,6 +1,6 @@
 use Rattle.std.proofs.Common.{◌≡◌, length, None, sym, ◌∙◌, arith}
 use Rattle.walk.proofs.Walking.{read, row-none}
-use Rattle.certificate.proofs.Rows.{row_cell}
+use Rattle.certificate.proofs.Rows.{row-cell}
 use Rattle.certificate.proofs.Writing.{write_past, write_here, write_whole}
 use Rattle.certificate.proofs.write.write.Goals as goal
 use Rattle.certificate.proofs.write.write.Goals.{in-None, in-Some}
@@ -20,7 +20,7 @@ loop-index-preserved c =
         | in-None w ↦ rw w.grid-is (write_past p c.args.basis us ws bs i xs (c.loop-index.invariant.1 p st of) (row-none p rows i st lt (sym row ∙ w.in-None.is)))
         | in-Some w ↦ rw w.grid-is
             (write_here p c.args.basis us ws bs i xs (c.loop-index.invariant.1 p st of) c.args.measure w.certified_at-own.result w.settled.result _ of
-            (row_cell p rows i _ st (sym row ∙ w.in-Some.is)) (omega (arith, c.loop-index.invariant.0)) w.certified_at-own.ensures w.settled.ensures)
+            (row-cell p rows i _ st (sym row ∙ w.in-Some.is)) (omega (arith, c.loop-index.invariant.0)) w.certified_at-own.ensures w.settled.ensures)
       ],
     )
 
