@@ -15,6 +15,8 @@ use Rattle.steps.specs.declared.report.Raised.{Raised}
 use Rattle.certificate.specs.Certifying.{temperature_check, certificate_check, written}
 use Rattle.certificate.specs.declared.basis.Basis.{Basis}
 use Rattle.study.specs.Calls.{length_check, run_check, factor, margin, relax_answer, relax_grid, raise_answer, raise_grid, Standing, standing, proved_check, tighten_check, tighten_answer, tighten_grid, tighten_standing, basis_of, certificate_of, certify_answer, certify_grid, certify_standing, ask_check}
+use Rattle.study.specs.Studies.{standing_of, Same}
+use Rattle.study.specs.declared.types.Study.{Study}
 use Rattle.certificate.specs.Counting.{open_count}
 use Rattle.study.specs.declared.types.Certificate.{Certificate}
 use Rattle.study.specs.declared.types.State.{State}
@@ -144,3 +146,7 @@ module _ (p : Plan) (tolerance : ℤ) (s : State) (us : List Temperature) (ws : 
         (s' : State) (before : ℕ) → s' ≡ Proved →
         unless_refused accepting (standing s before) (standing s' (open_count p tolerance (written p b us ws bs))) ≡ certify_standing p tolerance (standing s before) us ws bs
     certify-stands s' before q' = rw (e, f, g, q, q') refl
+
+-- a call that leaves the study as it was leaves how its brackets stand
+pub same_stands : {G : Type 0} {before after : Study G} → Same before after → standing_of after ≡ standing_of before
+same_stands same = rw (same.state, same.count) refl

@@ -21,9 +21,12 @@ pub record Becomes {G : Type 0} (before after : Study G) (k : Standing) : Type 0
   pub tolerance : after.tolerance ≡ before.tolerance
   pub stands : standing_of after ≡ k
 
--- a call that leaves the study as it was
-abbrev pub Same : {G : Type 0} → Study G → Study G → Type 0
-Same before after = Becomes before after (standing_of before)
+-- a call that leaves the study as it was; the room for its equations says nothing
+pub record Same {G : Type 0} (before after : Study G) : Type 0 where
+  pub layer : after.layer ≡ before.layer
+  pub tolerance : after.tolerance ≡ before.tolerance
+  pub state : after.state ≡ before.state
+  pub count : after.«open» ≡ before.«open»
 
 -- how its pins and brackets stand
 abbrev pub pinning_of : {G : Type 0} → Study G → Pinning
@@ -51,10 +54,12 @@ pub record Fits (s : Shape) (p : Plan) (entries : ℕ) : Type 0 where
   pub high : s.high ≡ p.high
   pub count : entries ≡ size p
 
--- a run that may begin
+-- a run that may begin, with the shape of its plan
 pub record Ready (s : Shape) (p : Plan) (entries : ℕ) (x : Number) (n : ℤ) : Type 0 where
   pub fine : run_check p entries x n ≡ clear
-  pub fits : Fits s p entries
+  pub wide : s.wide ≡ p.wide
+  pub high : s.high ≡ p.high
+  pub count : entries ≡ size p
   pub least : x.least ≤ℤ x.value
   pub most : x.value ≤ℤ x.most
   pub some : pos 1 ≤ℤ n

@@ -8,7 +8,7 @@ use Rattle.study.proofs.relax.relax_laid.Goals as goal
 
 pub returns-in_err-temperatures_fair : goal.returns-in_err-temperatures_fair
 returns-in_err-temperatures_fair c =
-    let q = err_from_is_err_and c.from-residual.result c.from-residual.ensures.1 in
+    let q = err_from_is_err_and c.from_residual.result c.from_residual.ensures.1 in
     record {
       answer = λ p st. rw (q.1, q.2, sym (c.in_err-temperatures_fair.ensures p st)) refl;
       grid = λ p st. rw (sym (c.in_err-temperatures_fair.ensures p st)) refl;

@@ -8,7 +8,7 @@ use Rattle.certificate.specs.Certifying.{certificate_check, written}
 use Rattle.study.specs.Calls.{certificate_of, standing}
 use Rattle.study.specs.Studies.{standing_of}
 use Rattle.certificate.specs.Counting.{open_count}
-use Rattle.study.proofs.Checks.{refused_is, accept_is}
+use Rattle.study.proofs.Checks.{refused_is, accept_is, same_stands}
 use Rattle.study.proofs.types.Study.accept.Goals as goal
 
 pub certify-requires : goal.certify-requires
@@ -23,7 +23,7 @@ certify-requires g c =
 
 pub returns-in_err-rest : goal.returns-in_err-rest
 returns-in_err-rest g c =
-    let q = err_from_is_err_and c.from-residual.result c.from-residual.ensures.1 in
+    let q = err_from_is_err_and c.from_residual.result c.from_residual.ensures.1 in
     let p = pin_plan c.args.self.now.layer.pins.places (g.G.Ground.plan c.args.self.now.layer.below) in
     let us = c.args.temperatures.now in
     let ws = c.args.majorant.now in
@@ -38,7 +38,7 @@ returns-in_err-rest g c =
       study = record {
         layer = c.lay_out.ensures.same.layer;
         tolerance = c.lay_out.ensures.same.tolerance;
-        stands = c.lay_out.ensures.same.stands ∙ sym (ap (λ j. unless_refused j (standing_of c.args.self.now) (standing c.args.state (open_count p t (written p b us ws bs)))) k);
+        stands = same_stands c.lay_out.ensures.same ∙ sym (ap (λ j. unless_refused j (standing_of c.args.self.now) (standing c.args.state (open_count p t (written p b us ws bs)))) k);
       };
     }
 

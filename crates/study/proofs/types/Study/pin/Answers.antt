@@ -11,7 +11,7 @@ use Rattle.study.proofs.types.Study.pin.Goals as goal
 
 pub returns-in_err-pin : goal.returns-in_err-pin
 returns-in_err-pin g c =
-    let q = err_from_is_err_and c.from-residual-in_err-pin.result c.from-residual-in_err-pin.ensures.1 in
+    let q = err_from_is_err_and c.from_residual-in_err-pin.result c.from_residual-in_err-pin.ensures.1 in
     let s = c.args.self.now in
     let f = c.ranges.temperature in
     let ground = g.G.Ground.plan s.layer.below in

@@ -9,7 +9,7 @@ use Rattle.study.proofs.types.Study.relax.Goals as goal
 
 pub returns-in_err-shape : goal.returns-in_err-shape
 returns-in_err-shape g c =
-    let q = err_from_is_err_and c.from-residual.result c.from-residual.ensures.1 in
+    let q = err_from_is_err_and c.from_residual.result c.from_residual.ensures.1 in
     let p = pin_plan c.args.self.now.layer.pins.places (g.G.Ground.plan c.args.self.now.layer.below) in
     let f = c.ranges.factor in
     let w = c.ranges.walks in
@@ -18,13 +18,13 @@ returns-in_err-shape g c =
     record {
       answer = rw (q.1, q.2) (ap (λ x. x.0) r);
       grid = ap (λ x. x.1) r;
-      study = record { layer = refl; tolerance = refl; stands = refl };
+      study = record { layer = refl; tolerance = refl; state = refl; count = refl };
     }
 
 pub relax_laid-requires : goal.relax_laid-requires
 relax_laid-requires g c =
     let p = pin_plan c.args.self.now.layer.pins.places (g.G.Ground.plan c.args.self.now.layer.below) in
-    let r = c.in_ok-shape.ensures.fits in
+    let r = c.in_ok-shape.ensures in
     record {
       plan = p;
       stands = subst (Stands p) (sym c.deref.ensures.value) c.lay_out.ensures.stands;

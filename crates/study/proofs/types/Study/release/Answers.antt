@@ -11,7 +11,7 @@ use Rattle.study.proofs.types.Study.release.Goals as goal
 
 pub returns-in_err-release : goal.returns-in_err-release
 returns-in_err-release g c =
-    let q = err_from_is_err_and c.from-residual-in_err-release.result c.from-residual-in_err-release.ensures.1 in
+    let q = err_from_is_err_and c.from_residual-in_err-release.result c.from_residual-in_err-release.ensures.1 in
     let s = c.args.self.now in
     let ground = g.G.Ground.plan s.layer.below in
     let x = pinning_of s in
