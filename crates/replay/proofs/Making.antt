@@ -16,6 +16,7 @@ use Rattle.steps.specs.Tightening.{tighten_run}
 use Rattle.steps.specs.declared.report.Raised.{Raised as Report}
 use Rattle.study.specs.Calls.{Pinning, length_check, walks, relax_answer, relax_grid, raise_answer, raise_grid, basis_of, certify_check, certificate_of, certify_answer, certify_grid, certify_standing, tighten_answer, tighten_grid, tighten_standing, ask_check, pin_leaves, release_leaves, is_finished}
 use Rattle.study.specs.Studies.{standing_of, pinning_of, Becomes, Same, Repinned}
+use Rattle.study.proofs.Checks.{same_stands}
 use Rattle.study.specs.declared.types.Certificate.{Certificate}
 use Rattle.study.specs.declared.types.State.{State}
 use Rattle.study.specs.declared.types.Study.{Study}
@@ -36,7 +37,7 @@ handed-back : (c : Call) (a : Told) → answer_kind a ≡ call_kind c → Handed
 handed-back c a e = record { kind = refl; answered = e; cell = refl; number = refl; walks = refl; temperatures = λ d. refl; majorant = λ d. refl }
 
 pub left_alone : {G : Type 0} {s : Study G} → Same s s
-left_alone = record { layer = refl; tolerance = refl; stands = refl }
+left_alone = record { layer = refl; tolerance = refl; state = refl; count = refl }
 
 -- the equations of a study, and its tolerance
 abbrev laid : {G : Type 0} → Plan → Study G → Plan
@@ -73,7 +74,7 @@ module _ {G : Type 0} {ground : Plan} {s s' : Study G} {bs cs : List BracketRow}
         × (grid_by start h ≡ grid_by start (new ground c e start h ∷ h))) →
         Made ground s bs c e s' cs
     same handed so grid says =
-        made (pinning_of s) handed (becomes s s' (standing_of s) so)
+        made (pinning_of s) handed (becomes s s' (standing_of s) (record { layer = so.layer; tolerance = so.tolerance; stands = same_stands so }))
         (λ start h led. let y = says start h led in (y.0, pinning_is led ∙ y.1, grid ∙ led.grid ∙ y.2))
 
   pub relax-made :

@@ -1,3 +1,3 @@
 mod Laying
-mod Checks
+pub mod Checks
 mod Pins

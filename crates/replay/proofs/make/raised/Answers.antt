@@ -8,7 +8,7 @@ pub returns : goal.returns
 returns g c = λ bs.
     let k : SFits w64 c.args.margin = search rules in
     let n : SFits w64 c.args.walks = search rules in
-    let filled = with_items_is c.args.majorant c.raise.new.grid (c.raise.auto.grid ∙ c.deref-mut.ensures.len) in
+    let filled = with_items_is c.args.majorant c.raise.new.grid (c.raise.auto.grid ∙ c.deref_mut.ensures.len) in
     let done = c.raise.ensures in
-    raise-made c.deref-mut.ensures.value (to_z-of_z w64 c.args.margin k) (to_z-of_z w64 c.args.walks n)
+    raise-made c.deref_mut.ensures.value (to_z-of_z w64 c.args.margin k) (to_z-of_z w64 c.args.walks n)
     done.answer (filled ∙ done.grid) done.study refl

@@ -8,7 +8,7 @@ pub returns : goal.returns
 returns g c = λ bs.
     let k : SFits w64 c.args.factor = search rules in
     let n : SFits w64 c.args.walks = search rules in
-    let filled = with_items_is c.args.temperatures c.relax.new.grid (c.relax.auto.grid ∙ c.deref-mut.ensures.len) in
+    let filled = with_items_is c.args.temperatures c.relax.new.grid (c.relax.auto.grid ∙ c.deref_mut.ensures.len) in
     let done = c.relax.ensures in
-    relax-made c.deref-mut.ensures.value (to_z-of_z w64 c.args.factor k) (to_z-of_z w64 c.args.walks n)
+    relax-made c.deref_mut.ensures.value (to_z-of_z w64 c.args.factor k) (to_z-of_z w64 c.args.walks n)
     done.answer (filled ∙ done.grid) done.study refl

@@ -20,7 +20,7 @@ pub push_reserved-requires : goal.push_reserved-requires
 push_reserved-requires g c =
     let inv = c.loop-call.invariant in
     let rest = c.loop-call.call-iterator.rest.items in
-    let all : length (c.loop-call.yielded ++ rest) ≡ length (vec_items c.args.calls) = ap length (inv.0 ∙ c.into-iter-call-iterator.ensures.into-iter-gives.0) in
+    let all : length (c.loop-call.yielded ++ rest) ≡ length (vec_items c.args.calls) = ap length (inv.0 ∙ c.into_iter-call-iterator.ensures.into_iter_gives.0) in
     let more = ap length c.in-Some.ensures.steps.0 in
     omega (arith, inv.1, inv.2, all, more, length-append c.loop-call.yielded rest, c.args.calls.ok.0, c.len.ensures, c.in-Ok.ensures.capacity)
 
@@ -50,6 +50,6 @@ returns g c =
     let done = c.loop-call.yielded in
     let rest = c.loop-call.call-iterator.rest in
     let end : rest.items ≡ [] = nil_from_length rest.items (sym rest.ok.0 ∙ c.in-None.ensures.steps.0) in
-    let all : done ≡ vec_items c.args.calls = sym (append-nil done) ∙ sym (ap (λ (l : List Call). done ++ l) end) ∙ inv.0 ∙ c.into-iter-call-iterator.ensures.into-iter-gives.0 in
+    let all : done ≡ vec_items c.args.calls = sym (append-nil done) ∙ sym (ap (λ (l : List Call). done ++ l) end) ∙ inv.0 ∙ c.into_iter-call-iterator.ensures.into_iter_gives.0 in
     let R : List Call → Type 0 = λ cs. Replayed (g.G.Ground.plan s.layer.below) s c.args.brackets.now cs (vec_items c.loop-call.events) c.loop-call.study c.loop-call.brackets in
     subst R all inv.3
