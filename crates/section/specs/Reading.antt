@@ -1,5 +1,5 @@
 -- How plain rows read: a table's bad row as void, a grid's bad row as the widest bracket.
-use Rattle.std.specs.Prelude.{ℕ, List, get_or, ℤ, pos, negsuc, slice_index_or, unsigned_abs}
+use Rattle.std.specs.Prelude.{ℕ, List, ℤ, pos, negsuc, slice_index_or, unsigned_abs}
 use Rattle.refusal.specs.Refusals.{Check, clear, refuse}
 use Rattle.section.specs.Limits.{free_check, held_check, bracket_check}
 use Rattle.section.specs.Plan.{Cell, free, held, void}
@@ -41,10 +41,10 @@ plain b = record { lo = b.lo; hi = b.hi }
 
 -- the entry of a grid at a cell
 abbrev pub temperatures : List Temperature → ℕ → ℤ
-temperatures us j = (get_or us j (record { value = pos 0 })).value
+temperatures us j = (slice_index_or us j (record { value = pos 0 })).value
 
 abbrev pub majorants : List Majorant → ℕ → ℤ
-majorants ws j = (get_or ws j (record { value = pos 0 })).value
+majorants ws j = (slice_index_or ws j (record { value = pos 0 })).value
 
 abbrev pub brackets : List BracketRow → ℕ → BracketRow
 brackets bs j = row_bracket (slice_index_or bs j widest)

@@ -32,7 +32,7 @@ walks n = number n (pos 1) (pos 1000000)
 
 -- what a run with a number of its own is checked for first: its grid, that number between its limits, and its walks
 abbrev pub run_check : Plan → ℕ → Number → ℤ → Check
-run_check p entries x n = length_check p entries then numbers 1 (x ∷ walks n ∷ [])
+run_check p entries x n = length_check p entries then numbers 1 (x ∷ number n (pos 1) (pos 1000000) ∷ [])
 
 abbrev pub factor : ℤ → Number
 factor k = number k (pos 1) (pos 199)
