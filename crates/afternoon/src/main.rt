@@ -1,5 +1,7 @@
 // A planner's afternoon over one cold-store floor: sensors pinned, temperatures proved, a thermostat
 // tried and taken away again, a broken sensor released. Every call goes through `replay`.
+#![tactic(auto)]
+
 mod desk;
 mod floor;
 mod reader;

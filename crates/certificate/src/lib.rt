@@ -1,4 +1,6 @@
 // Certificates: proposed grids checked, and the brackets that they give.
+#![tactic(auto)]
+
 pub mod basis;
 pub mod certify;
 mod checks;

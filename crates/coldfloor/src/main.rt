@@ -1,5 +1,7 @@
 // Reads a script from standard input, one command to a line, carries each command out over the
 // library, and writes a transcript to standard output.
+#![tactic(auto)]
+
 mod command;
 mod fault;
 mod floor;

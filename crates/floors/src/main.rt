@@ -1,5 +1,7 @@
 // Tries the library on floors small enough to work by hand, and prints a line for each case. What
 // it must print was worked out from the rules, so a line that differs shows a fault.
+#![tactic(auto)]
+
 mod limits;
 mod plans;
 mod runs;

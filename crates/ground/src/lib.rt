@@ -1,4 +1,6 @@
 // Grounds: what describes each cell of a section.
+#![tactic(auto)]
+
 pub mod ground;
 pub mod listed;
 pub mod ring;

@@ -1,5 +1,5 @@
 -- What the runs of tightening keep.
-use Rattle.std.specs.Prelude.{ℕ, List, ℤ, ◌≤ℤ◌}
+use Rattle.std.specs.Prelude.{ℕ, List, ◌≤ℤ◌}
 use Rattle.section.specs.Plan.{Plan, Free}
 use Rattle.section.specs.declared.rows.BracketRow.{BracketRow}
 use Rattle.laws.specs.Exact.{Bracketed}

@@ -1,4 +1,6 @@
 // The laws of the runs, for every plan.
+#![tactic(auto)]
+
 ghost use Rattle.laws.specs.Certifying.{CertificateLaw};
 ghost use Rattle.laws.specs.Raising.{RaisingLaw};
 ghost use Rattle.laws.specs.Tightening.{TighteningLaw};

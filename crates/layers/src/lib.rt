@@ -1,4 +1,6 @@
 // Layers: what is laid over a ground, which makes a ground again.
+#![tactic(auto)]
+
 pub mod layer;
 pub mod loss;
 pub mod pin;

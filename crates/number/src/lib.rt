@@ -1,4 +1,6 @@
 // Whole numbers that do not overflow, and division rounded as the rules ask.
+#![tactic(auto)]
+
 ghost use Rattle.std.specs.Prelude.{◌≡◌, ◌+◌, ◌*◌, ◌≤◌, pos, ◌+ℤ◌, ◌*ℤ◌, ◌≤ℤ◌, unsigned_abs};
 ghost use Rattle.number.specs.Rounding.{ceiling, floor, nearest};
 

@@ -1,3 +1,5 @@
 // How a call is refused: a number, a place and a level.
+#![tactic(auto)]
+
 pub mod told;
 pub mod types;

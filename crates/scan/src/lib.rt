@@ -1,4 +1,6 @@
 // The first cell of a section that fails a check, row by row.
+#![tactic(auto)]
+
 ghost use Rattle.std.specs.Prelude.{◌≡◌, ℕ, ◌*◌, ◌<◌, Bool};
 ghost use Rattle.scan.specs.First.{first};
 

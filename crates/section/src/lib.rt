@@ -1,4 +1,6 @@
 // A section through a floor: its shape and its records.
+#![tactic(auto)]
+
 pub mod limits;
 pub mod make;
 pub mod read;

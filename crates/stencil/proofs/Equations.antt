@@ -1,5 +1,5 @@
 -- Four sides make the equation of a free cell.
-use Rattle.std.proofs.Common.{◌≡◌, ℕ, ◌+◌, ◌-◌, ◌*◌, true, T, List, ◌++◌, ℤ, pos, ◌+ℤ◌, ◌*ℤ◌, sym, ap, subst, arith}
+use Rattle.std.proofs.Common.{◌≡◌, ℕ, ◌+◌, ◌-◌, true, T, List, ◌++◌, ℤ, pos, ◌+ℤ◌, ◌*ℤ◌, sym, ap, subst, arith}
 use borrow.Author.Differences.{ints}
 use Rattle.section.specs.Plan.{Plan, Cell, free, at, is_free, Link, counted, has_north, has_west, has_east, links_of, links, dot, dot_n, weights, entry, mass, diag, heat, heat_of, loss_of, pull, load}
 use Rattle.section.proofs.Cells.{dot-append, dot_n-append, weights-append}

@@ -1,4 +1,6 @@
 // The equations of a plan laid out for walking: each free cell's five-point stencil.
+#![tactic(auto)]
+
 mod kept;
 pub mod lay;
 pub mod side;

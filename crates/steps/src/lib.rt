@@ -1,4 +1,6 @@
 // The steps of the walks: relaxing temperatures, raising majorants and tightening brackets.
+#![tactic(auto)]
+
 pub mod raise;
 pub mod relax;
 pub mod report;

@@ -1,4 +1,6 @@
 // A study: one ground seen through a pin layer, with what is proved of it.
+#![tactic(auto)]
+
 mod event;
 mod raise;
 mod relax;

@@ -1,5 +1,7 @@
 // Replays random calls on every kind of ground, and checks what came of them against exact
 // temperatures that are worked out here, without the library.
+#![tactic(auto)]
+
 mod desk;
 mod dice;
 mod exact;

@@ -1,4 +1,6 @@
 // One walk over a grid, and runs of walks, for every kind of entry.
+#![tactic(auto)]
+
 pub mod rule;
 pub mod run;
 pub mod types;

@@ -1,4 +1,6 @@
 // The worked floors: small floors with what a host is told at each, worked out by hand.
+#![tactic(auto)]
+
 ghost use Rattle.std.specs.Prelude.{◌≡◌, length};
 ghost use Rattle.worked.specs.Cases.{cases, Worked};
 

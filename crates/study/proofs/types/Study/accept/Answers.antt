@@ -1,6 +1,6 @@
 use Rattle.std.proofs.Common.{nat_abs, sym, ap, ◌∙◌, subst}
 use Rattle.std.proofs.lemmas.Result.{err_from_is_err_and}
-use Rattle.refusal.specs.Refusals.{answer, unless_refused, refuse, fault_of}
+use Rattle.refusal.specs.Refusals.{answer, unless_refused, fault_of}
 use Rattle.stencil.specs.Stencils.{Stands}
 use Rattle.layers.specs.Layers.{pin_plan}
 use Rattle.measure.specs.Measures.{rest, margin}

@@ -1,6 +1,5 @@
 use Rattle.std.proofs.Common.{◌-◌, None, refl, ap, ◌∙◌}
 use Rattle.std.proofs.lemmas.Result.{err_from_is_err_and}
-use Rattle.std.proofs.lemmas.Int.{to_z-of_z}
 use Rattle.refusal.specs.Refusals.{fault_of}
 use Rattle.layers.specs.Layers.{altered, pinned_at, release_check}
 use Rattle.layers.specs.Tables.{used}
