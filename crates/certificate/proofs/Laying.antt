@@ -28,9 +28,9 @@ not_true false n = refl
 
 -- a test of the rows that tests each equation as the plan's test does
 module _ (p : Plan) (tests : Stencil → ℕ → Bool) (test : ℕ → Bool) (same : (k : ℕ) (r : Stencil) → Equation p k r → tests r k ≡ test k) where
-  at-row : (k : ℕ) (o : Option Stencil) → RowOf p k o → at_row (λ r. tests r k) o ≡ is_free_at p k && test k
-  at-row k (Some r) q = rw (free_true p k q.free) (same k r q)
-  at-row k None q = rw (not_true (is_free_at p k) q) refl
+  row_tells : (k : ℕ) (o : Option Stencil) → RowOf p k o → at_row (λ r. tests r k) o ≡ is_free_at p k && test k
+  row_tells k (Some r) q = rw (free_true p k q.free) (same k r q)
+  row_tells k None q = rw (not_true (is_free_at p k) q) refl
 
   -- finds the same cell first
   pub first-row :
@@ -38,7 +38,7 @@ module _ (p : Plan) (tests : Stencil → ℕ → Bool) (test : ℕ → Bool) (sa
       first (λ k. at_row (λ r. tests r k) (get_or rows k None)) (s.high * s.wide) ≡ first (λ i. is_free_at p i && test i) (size p)
   first-row s rows n l st =
       ap (first (λ k. at_row (λ r. tests r k) (get_or rows k None))) (laid-plan s rows n l p st)
-      ∙ first-same (λ k. at_row (λ r. tests r k) (get_or rows k None)) (λ i. is_free_at p i && test i) (size p) (λ k h. at-row k (get_or rows k None) (st.row k h))
+      ∙ first-same (λ k. at_row (λ r. tests r k) (get_or rows k None)) (λ i. is_free_at p i && test i) (size p) (λ k h. row_tells k (get_or rows k None) (st.row k h))
 
 -- a test of the grid alone, at the cells that have a row
 pub first-at : (p : Plan) (test : ℕ → Bool) (s : Shape) (rows : List (Option Stencil)) (n : ℕ) → Laid s rows n → Stands p rows → first (λ k. at_row (λ r. test k) (get_or rows k None)) (s.high * s.wide) ≡ first (λ i. is_free_at p i && test i) (size p)

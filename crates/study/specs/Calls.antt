@@ -13,7 +13,7 @@ use Rattle.layers.specs.Layers.{altered, holding, pin_checks, release_checks}
 use Rattle.steps.specs.Steps.{relax_run, raise_run, counts_of, raised_of}
 use Rattle.steps.specs.Tightening.{tighten_run}
 use Rattle.steps.specs.declared.report.Raised.{Raised}
-use Rattle.measure.specs.Measures.{rest, margin as leastMargin}
+use Rattle.measure.specs.Measures.{rest, margin as least_margin}
 use Rattle.certificate.specs.Certifying.{certificate_check, written}
 use Rattle.certificate.specs.Counting.{open_count}
 use Rattle.certificate.specs.declared.basis.Basis.{Basis}
@@ -82,7 +82,7 @@ certify_check p s us ws bs =
     length_check p (length us) then length_check p (length ws) then length_check p (length bs) then certificate_check p (basis_of s) us ws bs
 
 abbrev pub certificate_of : Plan → ℤ → Basis → List Temperature → List Majorant → List BracketRow → Certificate
-certificate_of p tolerance b us ws bs = record { rest = rest p us; margin = unsigned_abs (leastMargin p ws); «open» = open_count p tolerance (written p b us ws bs) }
+certificate_of p tolerance b us ws bs = record { rest = rest p us; margin = unsigned_abs (least_margin p ws); «open» = open_count p tolerance (written p b us ws bs) }
 
 abbrev pub certify_answer : Plan → ℤ → State → List Temperature → List Majorant → List BracketRow → Answer Certificate
 certify_answer p tolerance s us ws bs = answer (certify_check p s us ws bs) (certificate_of p tolerance (basis_of s) us ws bs)

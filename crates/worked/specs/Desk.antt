@@ -68,7 +68,7 @@ pub data Act : Type 0 where
 pub data Reply : Type 0 where
   counts : (walks changed : ℕ) → Reply
   raised : Report → (walks changed : ℕ) → Reply
-  certificate : (rest margin open-cells : ℕ) → Reply
+  certificate : (rest margin open_cells : ℕ) → Reply
   bracket : (lo hi : ℤ) → Reply
   number : ℤ → Reply
   said : Bool → Reply
