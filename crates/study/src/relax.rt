@@ -1,4 +1,4 @@
-ghost use Rattle.std.specs.Prelude.{◌≡◌, length};
+ghost use Rattle.std.specs.Prelude.{◌≡◌, ◌<◌, length};
 ghost use Rattle.section.specs.Plan.{Plan, size};
 ghost use Rattle.refusal.specs.Refusals.{answer_of, answer, unless_refused, at_first, fault};
 ghost use Rattle.refusal.specs.declared.types.Level.TheVariants.{Call};
@@ -8,8 +8,9 @@ ghost use Rattle.steps.specs.Steps.{relax_run, counts_of};
 ghost use Rattle.certificate.specs.AtRows.{Laid};
 ghost use Rattle.study.specs.Calls.{too_hot};
 
-use certificate::propose::temperatures_fair;
+use crate::check::Proposed;
 use refusal::types::Refusal;
+use scan::first_failing;
 use section::rows::Temperature;
 use section::types::Shape;
 use stencil::types::Stencil;
@@ -29,6 +30,8 @@ pub(crate) fn relax_laid(
     ensures answer { (p : Plan) → Stands p rows.now → answer_of result ≡ answer (at_first (first (too_hot p grid.old) (size p)) (fault Call 10)) (counts_of (relax_run p factor.factor most grid.old)) }
     ensures grid { (p : Plan) → Stands p rows.now → grid.new ≡ unless_refused (at_first (first (too_hot p grid.old) (size p)) (fault Call 10)) grid.old (relax_run p factor.factor most grid.old).grid }
 {
-    temperatures_fair(shape, rows, grid)?;
+    if let Some(cell) = first_failing(shape, &Proposed { rows, grid }) {
+        return Err(Refusal::Temperature(cell));
+    }
     Ok(counts_of(run(&factor, rows, grid, most)))
 }
