@@ -8,15 +8,12 @@ use Rattle.section.specs.Limits.{outside}
 use Rattle.section.specs.Plan.{Plan, size, is_free_at, Free}
 use Rattle.section.specs.declared.rows.Temperature.{Temperature}
 use Rattle.section.specs.declared.rows.Majorant.{Majorant}
-use Rattle.section.specs.declared.types.Shape.{Shape}
 use Rattle.section.proofs.Cells.{free-inside}
 use Rattle.scan.specs.First.{first}
 use Rattle.scan.proofs.Firsts.{first-none}
-use Rattle.stencil.specs.declared.types.Stencil.{Stencil}
 use Rattle.walk.specs.Sites.{Walkable}
 use Rattle.walk.proofs.Walking.{free_true}
 use Rattle.steps.specs.Steps.{FairTemperature, FairMajorant}
-use Rattle.certificate.specs.AtRows.{Laid}
 use Rattle.certificate.specs.Certifying.{free_check, temperature_check, majorant_check}
 
 -- no free cell passes the test
@@ -39,19 +36,17 @@ module _ (least most z : ℤ) (e : outside least most z ≡ false) where
 -- a grid within its limits can be walked
 limited_walkable :
     {E : Type 0} (fair : E → Type 0) (value : E → ℤ) (least most : ℤ) (none : E) (k : ℕ) → ((x : E) → least ≤ℤ value x → value x ≤ℤ most → fair x) →
-    (s : Shape) (rows : List (Option Stencil)) (xs : List E) (l : Laid s rows (length xs)) → free_check l.plan k (λ i. outside least most (value (get_or xs i none))) ≡ clear → Walkable fair rows xs
-limited_walkable fair value least most none k fair-of s rows xs l e = record {
-  plan = l.plan;
-  stands = l.stands;
-  count = l.count;
+    (p : Plan) (xs : List E) → length xs ≡ size p → free_check p k (λ i. outside least most (value (get_or xs i none))) ≡ clear → Walkable fair p xs
+limited_walkable fair value least most none k fair-of p xs n e = record {
+  count = n;
   entries = λ i f d.
-      let fine = clear_at l.plan k (λ (j : ℕ). outside least most (value (get_or xs j none))) e i f in
+      let fine = clear_at p k (λ (j : ℕ). outside least most (value (get_or xs j none))) e i f in
       let x = get_or xs i none in
-      subst fair (get_or_default xs i none d (omega (arith, free-inside l.plan i f, l.count))) (fair-of x (above least most (value x) fine) (below least most (value x) fine));
+      subst fair (get_or_default xs i none d (omega (arith, free-inside p i f, n))) (fair-of x (above least most (value x) fine) (below least most (value x) fine));
 }
 
-pub mild_walkable : (s : Shape) (rows : List (Option Stencil)) (us : List Temperature) (l : Laid s rows (length us)) → temperature_check l.plan us ≡ clear → Walkable FairTemperature rows us
+pub mild_walkable : (p : Plan) (us : List Temperature) → length us ≡ size p → temperature_check p us ≡ clear → Walkable FairTemperature p us
 mild_walkable = limited_walkable FairTemperature (λ t. t.value) (negsuc 999999999) (pos 1000000000) (record { value = pos 0 }) 10 (λ t lo hi. record { least = lo; most = hi })
 
-pub fair_walkable : (s : Shape) (rows : List (Option Stencil)) (ws : List Majorant) (l : Laid s rows (length ws)) → majorant_check l.plan ws ≡ clear → Walkable FairMajorant rows ws
+pub fair_walkable : (p : Plan) (ws : List Majorant) → length ws ≡ size p → majorant_check p ws ≡ clear → Walkable FairMajorant p ws
 fair_walkable = limited_walkable FairMajorant (λ w. w.value) (pos 0) (pos 500000) (record { value = pos 0 }) 11 (λ w lo hi. record { least = lo; most = hi })

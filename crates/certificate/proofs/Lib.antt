@@ -1,5 +1,3 @@
-pub mod Laying
-pub mod Rows
 pub mod Clears
 pub mod Margins
 mod Counts

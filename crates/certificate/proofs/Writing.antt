@@ -1,21 +1,14 @@
 -- The brackets that a certificate leaves, cell by cell.
-use Rattle.std.proofs.Common.{◌≡◌, ℕ, zero, suc, ◌+◌, ◌<◌, ◌≤◌, Bool, true, false, cond, List, length, get_or, set, Option, sym, refl, ap, ◌∙◌, add-one, arith, get_or-set_other}
+use Rattle.std.proofs.Common.{◌≡◌, ℕ, zero, suc, ◌+◌, ◌<◌, ◌≤◌, Bool, true, false, cond, List, length, get_or, set, refl, ap, ◌∙◌, add-one, arith, get_or-set_other}
 use Rattle.std.proofs.lemmas.List.{get_or_default}
-use Rattle.section.specs.Plan.{Plan, is_free_at, Free}
-use Rattle.section.specs.Reading.{temperatures, widest}
+use Rattle.section.specs.Plan.{Plan, is_free_at}
+use Rattle.section.specs.Reading.{widest}
 use Rattle.section.specs.declared.rows.BracketRow.{BracketRow}
 use Rattle.section.specs.declared.rows.Temperature.{Temperature}
 use Rattle.section.specs.declared.rows.Majorant.{Majorant}
-use Rattle.stencil.specs.Stencils.{Stands}
-use Rattle.stencil.specs.declared.types.Stencil.{Stencil}
-use Rattle.walk.proofs.Walking.{free_true}
-use Rattle.steps.specs.Steps.{heights}
-use Rattle.measure.specs.Measures.{spread_of, around, certified}
-use Rattle.measure.specs.declared.measure.Measure.{Measure}
-use Rattle.certificate.specs.AtRows.{MeasureOf}
-use Rattle.certificate.specs.Certifying.{settled, written_to, written}
+use Rattle.measure.specs.Measures.{certified}
+use Rattle.certificate.specs.Certifying.{settled, written_to}
 use Rattle.certificate.specs.declared.basis.Basis.{Basis}
-use Rattle.certificate.proofs.Finding.{spread_measured}
 
 module _ (p : Plan) (b : Basis) (us : List Temperature) (ws : List Majorant) (bs : List BracketRow) where
   -- a cell that was not passed yet has its row
@@ -34,15 +27,8 @@ module _ (p : Plan) (b : Basis) (us : List Temperature) (ws : List Majorant) (bs
     pub write_past : is_free_at p i ≡ false → xs ≡ written_to p b us ws (i + 1) bs
     write_past n = rw (add-one, n) so_far
 
-    pub write_here :
-        (m : Measure) (own row d : BracketRow) → MeasureOf p us ws m → Free p i → i < length xs →
-        own ≡ around (temperatures us i) (spread_of m.rest m.margin (heights ws i)) → row ≡ settled b own (get_or xs i d) → set xs i row ≡ written_to p b us ws (i + 1) bs
-    write_here m own row d of f l o r =
+    pub write_here : (own row d : BracketRow) → is_free_at p i ≡ true → i < length xs → own ≡ certified p us ws i → row ≡ settled b own (get_or xs i d) → set xs i row ≡ written_to p b us ws (i + 1) bs
+    write_here own row d f l o r =
         let read : get_or xs i d ≡ get_or bs i widest = get_or_default xs i d widest l ∙ ap (λ ys. get_or ys i widest) so_far ∙ ahead i i widest (omega arith) in
-        let certified-is : own ≡ certified p us ws i = o ∙ ap (around (temperatures us i)) (spread_measured p us ws m of i) in
-        let row_is : row ≡ settled b (certified p us ws i) (get_or bs i widest) = r ∙ ap (λ x. settled b x (get_or xs i d)) certified-is ∙ ap (settled b (certified p us ws i)) read in
-        rw (add-one i, free_true p i f) (ap (λ ys. set ys i row) so_far ∙ ap (set (written_to p b us ws i bs) i) row_is)
-
-  -- every row is passed
-  pub write_whole : (rows : List (Option Stencil)) (i : ℕ) (xs : List BracketRow) → Stands p rows → length rows ≡ i → xs ≡ written_to p b us ws i bs → xs ≡ written p b us ws bs
-  write_whole rows i xs st n e = e ∙ ap (λ k. written_to p b us ws k bs) (sym n ∙ st.count)
+        let row_is : row ≡ settled b (certified p us ws i) (get_or bs i widest) = r ∙ ap (λ x. settled b x (get_or xs i d)) o ∙ ap (settled b (certified p us ws i)) read in
+        rw (add-one i, f) (ap (λ ys. set ys i row) so_far ∙ ap (set (written_to p b us ws i bs) i) row_is)

@@ -1,3 +1,3 @@
 pub mod Certifying
 pub mod Counting
-pub mod AtRows
+pub mod Proposals

@@ -3,7 +3,6 @@
 
 pub mod basis;
 pub mod certify;
-mod checks;
 pub mod count;
 mod meet;
 pub mod propose;

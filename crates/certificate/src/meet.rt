@@ -1,15 +1,16 @@
-ghost use Rattle.std.specs.Prelude.{◌≡◌, ◌<◌, length, Some, None, slice_index_or};
-ghost use Rattle.section.specs.Reading.{plain, temperatures as temperaturesOf};
-ghost use Rattle.steps.specs.Steps.{heights};
-ghost use Rattle.measure.specs.Measures.{spread_of, around};
-ghost use Rattle.certificate.specs.AtRows.{Certifiable};
+ghost use Rattle.std.specs.Prelude.{◌≡◌};
+ghost use Rattle.section.specs.Plan.{Free};
+ghost use Rattle.section.specs.Reading.{plain};
+ghost use Rattle.measure.specs.Measures.{certified as certified_of};
+ghost use Rattle.certificate.specs.Proposals.{Certifiable};
 ghost use Rattle.certificate.specs.Certifying.{common, crossed, settled as settled_of};
 
 use crate::basis::Basis;
+use ground::ground::Ground;
 use measure::measure::Measure;
 use section::rows::{BracketRow, Majorant, Temperature};
 use section::types::Bracket;
-use stencil::types::Stencil;
+use stencil::laid::LaidOut;
 use steps::raise::height;
 
 // What two brackets have in common.
@@ -45,18 +46,16 @@ pub(crate) fn settled(basis: Basis, own: BracketRow, row: BracketRow) -> Bracket
 }
 
 // The certified bracket of a free cell.
-pub(crate) fn certified_at(
-    rows: &[Option<Stencil>],
+pub(crate) fn certified_at<G: Ground>(
+    laid: &LaidOut<G>,
     temperatures: &[Temperature],
     majorant: &[Majorant],
     measure: Measure,
-    stencil: Stencil,
     cell: usize,
 ) -> BracketRow
-    requires fit { Certifiable rows.now temperatures.now majorant.now measure }
-    requires on { cell < length rows.now }
-    requires here { slice_index_or rows.now cell None ≡ Some stencil }
-    ensures { result ≡ around (temperaturesOf temperatures.now cell) (spread_of measure.rest measure.margin (heights majorant.now cell)) }
+    requires fit { Certifiable (G.plan laid.now) temperatures.now majorant.now measure }
+    requires free { Free (G.plan laid.now) cell }
+    ensures { result ≡ certified_of (G.plan laid.now) temperatures.now majorant.now cell }
 {
     measure.certified(temperatures[cell].value, height(majorant[cell]))
 }

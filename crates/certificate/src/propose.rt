@@ -1,96 +1,118 @@
-ghost use Rattle.std.specs.Prelude.{◌≡◌, List, length, MatchResult};
+ghost use Rattle.std.specs.Prelude.{◌≡◌, ℕ, ◌<◌, ◌≤◌, ◌&&◌, length, pos, negsuc, int_lt, nat_lt, MatchResult};
 ghost use Rattle.refusal.specs.Refusals.{check_of, refuse, fault_of};
-ghost use Rattle.section.specs.Plan.{Plan};
-ghost use Rattle.section.specs.declared.rows.Temperature.{Temperature};
-ghost use Rattle.stencil.specs.Stencils.{Stands};
+ghost use Rattle.section.specs.Limits.{outside};
+ghost use Rattle.section.specs.Plan.{Free, is_free_at, size};
+ghost use Rattle.section.specs.Reading.{temperatures as temperatures_of, majorants};
 ghost use Rattle.walk.specs.Sites.{Walkable};
-ghost use Rattle.steps.specs.Steps.{FairMajorant};
-ghost use Rattle.certificate.specs.AtRows.{Laid, MeasureOf, Useful, Passed};
+ghost use Rattle.steps.specs.Steps.{heights, FairMajorant};
+ghost use Rattle.measure.specs.Measures.{cell_margin, spread_of};
+ghost use Rattle.certificate.specs.Proposals.{MeasureOf, Passed};
 ghost use Rattle.certificate.specs.Certifying.{temperature_check, majorant_check, margin_check, spread_check, proposal_check};
 
-use crate::checks::{Heat, Height, Slack, Wide};
+use ground::ground::Ground;
+use measure::grids::margin_at;
 use measure::measure::{Measure, measured};
 use refusal::types::Refusal;
 use scan::first_failing;
 use section::rows::{Majorant, Temperature};
-use section::types::Shape;
-use stencil::types::Stencil;
+use stencil::laid::LaidOut;
+use steps::raise::height;
 
 // The first free cell whose temperature is outside its limits is refused. For the crates above.
-pub fn temperatures_fair(
-    shape: Shape,
-    rows: &[Option<Stencil>],
+pub fn temperatures_fair<G: Ground>(
+    laid: &LaidOut<G>,
     grid: &[Temperature],
 ) -> Result<(), Refusal>
-    requires { Laid shape rows.now (length grid.now) }
-    ensures { (p : Plan) → Stands p rows.now → check_of result ≡ temperature_check p grid.now }
+    requires { length grid.now ≡ size (G.plan laid.now) }
+    ensures { check_of result ≡ temperature_check (G.plan laid.now) grid.now }
 {
-    match first_failing(shape, &Heat { rows, grid }) {
+    let is_outside = |cell: usize|
+        requires { cell < length grid.now }
+        ensures { result ≡ (is_free_at (G.plan laid.entry.now) cell && outside (negsuc 999999999) (pos 1000000000) (temperatures_of grid.entry.now cell)) }
+    {
+        let value = grid[cell].value;
+        laid.is_free(cell) && (value < -1_000_000_000 || value > 1_000_000_000)
+    };
+    match first_failing(laid.shape(), is_outside) {
         Some(cell) => Err(Refusal::Temperature(cell)),
         None => Ok(()),
     }
 }
 
-fn majorant_fair(shape: Shape, rows: &[Option<Stencil>], grid: &[Majorant]) -> Result<(), Refusal>
-    requires { Laid shape rows.now (length grid.now) }
-    ensures { (p : Plan) → Stands p rows.now → check_of result ≡ majorant_check p grid.now }
+fn majorant_fair<G: Ground>(laid: &LaidOut<G>, grid: &[Majorant]) -> Result<(), Refusal>
+    requires { length grid.now ≡ size (G.plan laid.now) }
+    ensures { check_of result ≡ majorant_check (G.plan laid.now) grid.now }
 {
-    match first_failing(shape, &Height { rows, grid }) {
+    let is_outside = |cell: usize|
+        requires { cell < length grid.now }
+        ensures { result ≡ (is_free_at (G.plan laid.entry.now) cell && outside (pos 0) (pos 500000) (majorants grid.entry.now cell)) }
+    {
+        let value = grid[cell].value;
+        laid.is_free(cell) && (value < 0 || value > 500_000)
+    };
+    match first_failing(laid.shape(), is_outside) {
         Some(cell) => Err(Refusal::Majorant(cell)),
         None => Ok(()),
     }
 }
 
-fn margins_enough(shape: Shape, rows: &[Option<Stencil>], grid: &[Majorant]) -> Result<(), Refusal>
-    requires laid { Laid shape rows.now (length grid.now) }
-    requires fair { Walkable FairMajorant rows.now grid.now }
-    ensures { (p : Plan) → Stands p rows.now → check_of result ≡ margin_check p grid.now }
+fn margins_enough<G: Ground>(laid: &LaidOut<G>, grid: &[Majorant]) -> Result<(), Refusal>
+    requires { Walkable FairMajorant (G.plan laid.now) grid.now }
+    ensures { check_of result ≡ margin_check (G.plan laid.now) grid.now }
 {
-    match first_failing(shape, &Slack { rows, grid }) {
+    let is_slack = |cell: usize|
+        requires { Walkable FairMajorant (G.plan laid.now) grid.now }
+        ensures { result ≡ (is_free_at (G.plan laid.entry.now) cell && int_lt (cell_margin (G.plan laid.entry.now) grid.entry.now cell) (pos 1)) }
+    {
+        match laid.row(cell) {
+            Some(stencil) => margin_at(laid, grid, stencil, cell) < 1,
+            None => false,
+        }
+    };
+    match first_failing(laid.shape(), is_slack) {
         Some(cell) => Err(Refusal::Margin(cell)),
         None => Ok(()),
     }
 }
 
-fn spreads_near(
-    shape: Shape,
-    rows: &[Option<Stencil>],
+fn spreads_near<G: Ground>(
+    laid: &LaidOut<G>,
+    temperatures: &[Temperature],
     grid: &[Majorant],
     measure: Measure,
 ) -> Result<(), Refusal>
-    requires laid { Laid shape rows.now (length grid.now) }
-    requires fair { Walkable FairMajorant rows.now grid.now }
-    requires some { Useful rows.now measure }
-    ensures { (p : Plan) (us : List Temperature) → Stands p rows.now → MeasureOf p us grid.now measure → check_of result ≡ spread_check p us grid.now }
+    requires fair { Walkable FairMajorant (G.plan laid.now) grid.now }
+    requires some { (k : ℕ) → Free (G.plan laid.now) k → 1 ≤ measure.margin }
+    requires measured { MeasureOf (G.plan laid.now) temperatures.now grid.now measure }
+    ensures { check_of result ≡ spread_check (G.plan laid.now) temperatures.now grid.now }
 {
-    match first_failing(
-        shape,
-        &Wide {
-            rows,
-            grid,
-            measure,
-        },
-    ) {
+    let is_wide = |cell: usize|
+        requires fair { Walkable FairMajorant (G.plan laid.now) grid.now }
+        requires some { Free (G.plan laid.now) cell → 1 ≤ measure.margin }
+        ensures { result ≡ (is_free_at (G.plan laid.entry.now) cell && nat_lt 1000000000 (spread_of measure.rest measure.margin (heights grid.entry.now cell))) }
+    {
+        laid.is_free(cell) && measure.too_wide(height(grid[cell]))
+    };
+    match first_failing(laid.shape(), is_wide) {
         Some(cell) => Err(Refusal::Spread(cell)),
         None => Ok(()),
     }
 }
 
 // What is proposed is checked, each check over the whole grid before the next, and measured.
-pub(crate) fn proposed(
-    shape: Shape,
-    rows: &[Option<Stencil>],
+pub(crate) fn proposed<G: Ground>(
+    laid: &LaidOut<G>,
     temperatures: &[Temperature],
     majorant: &[Majorant],
 ) -> Result<Measure, Refusal>
-    requires temperatures { Laid shape rows.now (length temperatures.now) }
-    requires majorant { Laid shape rows.now (length majorant.now) }
-    ensures { MatchResult result (λ m. Passed rows.now temperatures.now majorant.now m) (λ e. ((p : Plan) → Stands p rows.now → proposal_check p temperatures.now majorant.now ≡ refuse (fault_of e))) }
+    requires temperatures { length temperatures.now ≡ size (G.plan laid.now) }
+    requires majorant { length majorant.now ≡ size (G.plan laid.now) }
+    ensures { MatchResult result (Passed (G.plan laid.now) temperatures.now majorant.now) (λ e. proposal_check (G.plan laid.now) temperatures.now majorant.now ≡ refuse (fault_of e)) }
 {
-    temperatures_fair(shape, rows, temperatures)?;
-    majorant_fair(shape, rows, majorant)?;
-    margins_enough(shape, rows, majorant)?;
-    let measure = measured(rows, temperatures, majorant);
-    spreads_near(shape, rows, majorant, measure)?;
+    temperatures_fair(laid, temperatures)?;
+    majorant_fair(laid, majorant)?;
+    margins_enough(laid, majorant)?;
+    let measure = measured(laid, temperatures, majorant);
+    spreads_near(laid, temperatures, majorant, measure)?;
     Ok(measure)
 }

@@ -1,18 +1,17 @@
 -- Residuals: the difference that code computes, and the largest so far.
-use Rattle.std.proofs.Common.{◌≡◌, ℕ, ◌+◌, ◌*◌, ◌<◌, ◌≤◌, max, List, length, get_or, ℤ, pos, ◌-ℤ◌, ◌*ℤ◌, nat_abs, Some, None, Option, sym, refl, ap, ◌∙◌, add-one, arith, w64, SFits}
+use Rattle.std.proofs.Common.{◌≡◌, ℕ, ◌+◌, ◌*◌, ◌≤◌, List, ℤ, pos, ◌-ℤ◌, ◌*ℤ◌, nat_abs, sym, refl, ap, ◌∙◌, arith, w64, SFits}
 use Rattle.std.proofs.lemmas.Nat.{mul-le}
 use Rattle.std.proofs.lemmas.Int.{ints}
 use Rattle.number.proofs.Words.{word, back, times_abs, fits_abs, product_fits, product_back}
 use Rattle.section.specs.Plan.{Plan}
 use Rattle.section.specs.Reading.{temperatures}
 use Rattle.section.specs.declared.rows.Temperature.{Temperature}
-use Rattle.stencil.specs.Stencils.{Equation, Stands}
+use Rattle.stencil.specs.Stencils.{Equation}
 use Rattle.stencil.specs.declared.types.Stencil.{Stencil}
 use Rattle.walk.specs.Sites.{Shows}
 use Rattle.walk.specs.declared.types.Site.{Site}
-use Rattle.walk.proofs.Walking.{row-free, row-none, free_true}
 use Rattle.steps.specs.AtSites.{site_sum}
-use Rattle.measure.specs.Measures.{residual, rest_to}
+use Rattle.measure.specs.Measures.{residual}
 
 minus_abs : (a b : ℤ) → nat_abs (a -ℤ b) ≤ nat_abs a + nat_abs b
 minus_abs a b = omega (arith, ints)
@@ -57,28 +56,9 @@ module _ (y old : ℤ) (d : ℕ) (ey : y ≡ pos d) (few : d ≤ 5000) (bo : nat
       gap-small = rw gap gap-most
 
 -- the residual at a site is that of the plan which it shows
-shown :
+pub shown :
     (p : Plan) (us : List Temperature) (i : ℕ) (st : Stencil) (s : Site Temperature) → Equation p i st → Shows us i st s →
     site_sum s -ℤ pos s.stencil.diagonal *ℤ s.old.value ≡ residual p us i
 shown p us i st s q h =
     rw (h.stencil, h.old (record { value = pos 0 }), h.north (record { value = pos 0 }), h.west (record { value = pos 0 }), h.east (record { value = pos 0 }), h.south (record { value = pos 0 }))
     (rw (q.pulls (temperatures us), q.diagonal) refl)
-
--- one row of the table, whatever plan it stands for
-module _
-    (rows : List (Option Stencil))
-    (us : List Temperature)
-    (i n : ℕ)
-    (lt : i < length rows)
-    (so_far : (p : Plan) → Stands p rows → n ≡ rest_to p us i)
-  where
-    pub rest_past : get_or rows i None ≡ None → (p : Plan) → Stands p rows → n ≡ rest_to p us (i + 1)
-    rest_past e p stands = rw (add-one, row-none p rows i stands lt e) (so_far p stands)
-
-    pub rest-here :
-        (st : Stencil) (s : Site Temperature) (r : ℕ) → get_or rows i None ≡ Some st → Shows us i st s →
-        r ≡ nat_abs (site_sum s -ℤ pos s.stencil.diagonal *ℤ s.old.value) → (p : Plan) → Stands p rows → max n r ≡ rest_to p us (i + 1)
-    rest-here st s r e h is p stands =
-        let q = row-free p rows i st stands lt e in
-        let r-is : r ≡ nat_abs (residual p us i) = is ∙ rw (shown p us i st s q h) refl in
-        rw (add-one, free_true p i q.free) (rw (so_far p stands, r-is) refl)

@@ -1,5 +1,5 @@
 -- Finding the first index that passes a test.
-use Rattle.std.proofs.Common.{◌≡◌, ℕ, zero, suc, ◌+◌, ◌*◌, ◌<◌, ◌≤◌, Bool, true, false, Some, None, Option, refl, subst, mul-le-mul_right, suc-mul, add-one, arith}
+use Rattle.std.proofs.Common.{◌≡◌, ℕ, zero, suc, ◌+◌, ◌*◌, ◌<◌, ◌≤◌, Bool, true, false, Some, None, Option, refl, subst, mul-le-mul_right, suc-mul, add-one, mul_comm, arith}
 use native.Mathlib.Decide.{ℕ_discrete}
 use Rattle.scan.specs.First.{first, or_here}
 
@@ -29,9 +29,9 @@ first-none test (suc n) e k l = by (first test n) (test n) refl refl e (λ p. fi
     by None false p q r ih = elim (ℕ_discrete k n) [ yes s ↦ rw s q | no d ↦ ih p (omega arith) ]
 
 -- a cell's index lies on the plan
-pub within : (i j w h : ℕ) → i < h → j < w → i * w + j < h * w
+pub within : (i j w h : ℕ) → i < h → j < w → i * w + j < w * h
 within i j w h hi hj =
-    let m : suc i * w ≤ h * w = mul-le-mul_right w hi in omega (arith, m, suc-mul i w)
+    let m : suc i * w ≤ h * w = mul-le-mul_right w hi in omega (arith, m, suc-mul i w, mul_comm h w)
 
 -- the next row begins where this one ends
 pub next_row : (i w : ℕ) → (i + 1) * w ≡ i * w + w

@@ -64,7 +64,7 @@ fn lay_rows<G: Ground>(ground: &G, rows: &mut Vec<Option<Stencil>>)
 
 // Lays the equations of the ground out, one row for each cell, in room that is there already.
 // For the crates above.
-pub fn lay<G: Ground>(ground: &G, records: &mut Vec<Record>, rows: &mut Vec<Option<Stencil>>)
+pub(crate) fn lay<G: Ground>(ground: &G, records: &mut Vec<Record>, rows: &mut Vec<Option<Stencil>>)
     requires kept { 4096 ≤ vec_capacity records.old }
     requires laid { 4096 ≤ vec_capacity rows.old }
     ensures stands { Stands (G.plan ground.now) rows.new.items }

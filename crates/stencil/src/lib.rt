@@ -2,6 +2,7 @@
 #![tactic(auto)]
 
 mod kept;
+pub mod laid;
 pub mod lay;
 pub mod side;
 pub mod types;

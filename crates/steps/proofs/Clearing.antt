@@ -1,12 +1,10 @@
 -- A majorant that raising begins with.
-use Rattle.std.proofs.Common.{◌≡◌, ℕ, zero, suc, ◌+◌, ◌<◌, Bool, true, false, cond, List, length, get_or, set, pos, Option, refl, ap, ◌∙◌, add-one, arith, length-set, get_or-set_other, get_or-set_same}
+use Rattle.std.proofs.Common.{◌≡◌, ℕ, zero, suc, ◌+◌, ◌<◌, Bool, true, false, cond, List, length, get_or, set, pos, refl, ap, ◌∙◌, add-one, arith, length-set, get_or-set_other, get_or-set_same}
 use native.Mathlib.Decide.{ℕ_discrete}
 use Rattle.std.proofs.lemmas.Int.{ints}
 use Rattle.section.specs.Plan.{Plan, size, is_free_at, Free}
 use Rattle.section.specs.declared.rows.Majorant.{Majorant}
 use Rattle.section.proofs.Cells.{free-inside}
-use Rattle.stencil.specs.Stencils.{Stands}
-use Rattle.stencil.specs.declared.types.Stencil.{Stencil}
 use Rattle.walk.specs.Sites.{Walkable}
 use Rattle.walk.proofs.Walking.{free_true}
 use Rattle.steps.specs.Steps.{clear_to, cleared, FairMajorant}
@@ -44,10 +42,8 @@ clear_at p (suc n) ws i d l in-ws f = elim (ℕ_discrete i n) [
 pub cleared_zero : (p : Plan) (ws : List Majorant) (i : ℕ) (d : Majorant) → i < length ws → Free p i → get_or (cleared p ws) i d ≡ record { value = pos 0 }
 cleared_zero p ws i d l f = clear_at p (size p) ws i d (free-inside p i f) l f
 
-pub cleared_walkable : (p : Plan) (rows : List (Option Stencil)) (ws xs : List Majorant) → Stands p rows → length ws ≡ length rows → xs ≡ cleared p ws → Walkable FairMajorant rows xs
-cleared_walkable p rows ws xs st n e = record {
-  plan = p;
-  stands = st;
-  count = rw e (length-clear p (size p) ws ∙ n ∙ st.count);
-  entries = λ i f d. rw e (rw (cleared_zero p ws i d (omega (arith, free-inside p i f, n, st.count)) f) (record { least = omega (arith, ints); most = omega (arith, ints) }));
+pub cleared_walkable : (p : Plan) (ws : List Majorant) → length ws ≡ size p → Walkable FairMajorant p (cleared p ws)
+cleared_walkable p ws n = record {
+  count = length-clear p (size p) ws ∙ n;
+  entries = λ i f d. rw (cleared_zero p ws i d (omega (arith, free-inside p i f, n)) f) (record { least = omega (arith, ints); most = omega (arith, ints) });
 }

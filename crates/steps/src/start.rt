@@ -1,22 +1,21 @@
 ghost use Rattle.std.specs.Prelude.{◌≡◌, length};
-ghost use Rattle.section.specs.Plan.{Plan};
-ghost use Rattle.stencil.specs.Stencils.{Stands};
+ghost use Rattle.section.specs.Plan.{size};
 ghost use Rattle.walk.specs.Sites.{Walkable};
 ghost use Rattle.steps.specs.Steps.{cleared, FairMajorant};
 
+use ground::ground::Ground;
 use section::rows::Majorant;
-use stencil::types::Stencil;
+use stencil::laid::LaidOut;
 
 // Sets the entry of every free cell to 0. For the crates above.
-pub fn clear(rows: &[Option<Stencil>], grid: &mut [Majorant])
-    requires { length grid.old ≡ length rows.now }
-    ensures value { (p : Plan) → Stands p rows.now → grid.new ≡ cleared p grid.old }
-    ensures fair { (p : Plan) → Stands p rows.now → Walkable FairMajorant rows.now grid.new }
+pub fn clear<G: Ground>(laid: &LaidOut<G>, grid: &mut [Majorant])
+    requires { length grid.old ≡ size (G.plan laid.now) }
+    ensures value { grid.new ≡ cleared (G.plan laid.now) grid.old }
+    ensures fair { Walkable FairMajorant (G.plan laid.now) grid.new }
 {
-    for (index, row) in rows.iter().enumerate() {
-        match row {
-            None => {}
-            Some(_) => grid[index] = Majorant { value: 0 },
+    for (index, row) in laid.rows().iter().enumerate() {
+        if row.is_some() {
+            grid[index] = Majorant { value: 0 };
         }
     }
 }

@@ -1,10 +1,7 @@
 -- One walk of a run.
-use Rattle.std.proofs.Common.{◌≡◌, ℕ, zero, suc, ◌+◌, ◌<◌, ◌≤◌, Bool, true, false, cond, not, ◌&&◌, eqb, List, Some, None, Option, sym, refl, ◌∙◌, subst, add-one, arith}
+use Rattle.std.proofs.Common.{◌≡◌, ℕ, zero, suc, ◌+◌, ◌<◌, ◌≤◌, Bool, true, false, cond, not, ◌&&◌, eqb, List, Some, None, sym, refl, ◌∙◌, subst, add-one, arith}
 use native.Mathlib.Decide.{ℕ_discrete}
 use Rattle.std.proofs.lemmas.Bool.{ne_eqb}
-use Rattle.section.specs.Plan.{Plan, is_free_at, size}
-use Rattle.stencil.specs.Stencils.{Stands}
-use Rattle.stencil.specs.declared.types.Stencil.{Stencil}
 use Rattle.walk.specs.Walks.{Walk, walk, Run, ended, onward, run}
 use Rattle.walk.specs.declared.types.Turn.{Turn}
 
@@ -31,27 +28,25 @@ module _ {E : Type 0} (step : List E → ℕ → Turn E) (free : ℕ → Bool) (
         subst P (sym ih) (rw t refl) ∙ ih
   ]
 
--- one walk of the run over a table, whatever plan it stands for
+-- one walk of the run
 module _
     {E : Type 0}
-    (step : Plan → List E → ℕ → Turn E)
-    (rows : List (Option Stencil))
+    (step : List E → ℕ → Turn E)
+    (free : ℕ → Bool)
+    (n : ℕ)
     (xs₀ xs : List E)
     (k m most : ℕ)
     (lt : k < most)
-    (so_far : (p : Plan) → Stands p rows → run (step p) (is_free_at p) (size p) k xs₀ ≡ record { grid = xs; walks = k; changed = m; stopped = None })
+    (so_far : run step free n k xs₀ ≡ record { grid = xs; walks = k; changed = m; stopped = None })
     (going : m ≡ 0 → k ≡ 0)
     (w : Walk E)
-    (walked : (p : Plan) → Stands p rows → w ≡ walk (step p) (is_free_at p) (size p) xs)
+    (walked : w ≡ walk step free n xs)
   where
-    next : (p : Plan) → Stands p rows → run (step p) (is_free_at p) (size p) (k + 1) xs₀ ≡ record { grid = w.grid; walks = k + 1; changed = w.changed; stopped = w.stopped }
-    next p st = run_more (step p) (is_free_at p) (size p) xs₀ xs k m w (so_far p st) going (walked p st)
+    pub run_on : run step free n (k + 1) xs₀ ≡ record { grid = w.grid; walks = k + 1; changed = w.changed; stopped = w.stopped }
+    run_on = run_more step free n xs₀ xs k m w so_far going walked
 
-    pub run_on : w.stopped ≡ None → (p : Plan) → Stands p rows → run (step p) (is_free_at p) (size p) (k + 1) xs₀ ≡ record { grid = w.grid; walks = k + 1; changed = w.changed; stopped = None }
-    run_on e p st = rw e at (next p st)
+    pub run-stopped : (i : ℕ) → w.stopped ≡ Some i → run step free n most xs₀ ≡ record { grid = w.grid; walks = k + 1; changed = w.changed; stopped = Some i }
+    run-stopped i e = run-ended step free n xs₀ _ (k + 1) most (rw e at run_on) refl (omega arith)
 
-    pub run-stopped : (i : ℕ) → w.stopped ≡ Some i → (p : Plan) → Stands p rows → run (step p) (is_free_at p) (size p) most xs₀ ≡ record { grid = w.grid; walks = k + 1; changed = w.changed; stopped = Some i }
-    run-stopped i e p st = run-ended (step p) (is_free_at p) (size p) xs₀ _ (k + 1) most (rw e at (next p st)) refl (omega arith)
-
-    pub run_settled : w.stopped ≡ None → w.changed ≡ 0 → (p : Plan) → Stands p rows → run (step p) (is_free_at p) (size p) most xs₀ ≡ record { grid = w.grid; walks = k + 1; changed = 0; stopped = None }
-    run_settled e z p st = run-ended (step p) (is_free_at p) (size p) xs₀ _ (k + 1) most (rw z at (run_on e p st)) (rw (ne_eqb (k + 1) 0 (λ q. omega arith)) refl) (omega arith)
+    pub run_settled : w.stopped ≡ None → w.changed ≡ 0 → run step free n most xs₀ ≡ record { grid = w.grid; walks = k + 1; changed = 0; stopped = None }
+    run_settled e z = run-ended step free n xs₀ _ (k + 1) most (rw (e, z) at run_on) (rw (ne_eqb (k + 1) 0 (λ q. omega arith)) refl) (omega arith)

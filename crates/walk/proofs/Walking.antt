@@ -16,6 +16,10 @@ use Rattle.walk.specs.declared.types.Turn.TheVariants.{Stop}
 pub read : {E : Type 0} (xs : List E) (i : ℕ) (x d : E) → i < length xs → x ≡ get_or xs i x → x ≡ get_or xs i d
 read xs i x d l e = e ∙ get_or_default xs i x d l
 
+-- the row that a loop reads
+pub row_is : {X : Type 0} (rows : List (Option X)) (i : ℕ) (r x : Option X) → i < length rows → r ≡ get_or rows i r → r ≡ x → get_or rows i None ≡ x
+row_is rows i r x l e q = sym (read rows i r None l e) ∙ q
+
 -- what a row of a table that stands is
 pub row-free : (p : Plan) (rows : List (Option Stencil)) (i : ℕ) (s : Stencil) → Stands p rows → i < length rows → get_or rows i None ≡ Some s → Equation p i s
 row-free p rows i s st l e = subst (RowOf p i) e (st.row i (omega (arith, st.count)))
@@ -34,10 +38,7 @@ free_true p i f = by (is_free_at p i) f
     by true t = refl
     by false t = absurd t
 
-module _ {E : Type 0} (fair : E → Type 0) (rows : List (Option Stencil)) (xs : List E) (w : Walkable fair rows xs) where
-  abbrev p : Plan
-  p = w.plan
-
+module _ {E : Type 0} (fair : E → Type 0) (p : Plan) (xs : List E) (w : Walkable fair p xs) where
   pub inside : (i : ℕ) → Free p i → i < length xs
   inside i f = omega (arith, free-inside p i f, w.count)
 
@@ -51,10 +52,8 @@ module _ {E : Type 0} (fair : E → Type 0) (rows : List (Option Stencil)) (xs :
   }
 
   -- a fair entry put anywhere keeps the grid walkable
-  pub put_walkable : (i : ℕ) (e : E) → i < length xs → fair e → Walkable fair rows (set xs i e)
+  pub put_walkable : (i : ℕ) (e : E) → i < length xs → fair e → Walkable fair p (set xs i e)
   put_walkable i e l f = record {
-    plan = p;
-    stands = w.stands;
     count = simp length-set w.count;
     entries = λ j fj d. elim (ℕ_discrete j i) [
       | yes q ↦ rw (q, get_or-set_same xs i e d l) f
@@ -85,18 +84,20 @@ walk-stopped {E} step free xs₀ w k i (suc n) e s l = elim (ℕ_discrete i (suc
       subst P (sym ih) (ap (visited step free w n) s) ∙ ih
 ]
 
--- one row of the table, whatever plan it stands for
+-- one row of the table
 module _
     {E : Type 0}
-    (step : Plan → List E → ℕ → Turn E)
+    (p : Plan)
+    (step : List E → ℕ → Turn E)
     (rows : List (Option Stencil))
+    (stands : Stands p rows)
     (xs₀ xs : List E)
     (i m : ℕ)
     (lt : i < length rows)
-    (so_far : (p : Plan) → Stands p rows → walk (step p) (is_free_at p) i xs₀ ≡ record { grid = xs; changed = m; stopped = None })
+    (so_far : walk step (is_free_at p) i xs₀ ≡ record { grid = xs; changed = m; stopped = None })
   where
-    pub visit_none : get_or rows i None ≡ None → (p : Plan) → Stands p rows → walk (step p) (is_free_at p) (i + 1) xs₀ ≡ record { grid = xs; changed = m; stopped = None }
-    visit_none e p st = walk_past (step p) (is_free_at p) xs₀ xs i m (so_far p st) (row-none p rows i st lt e)
+    pub visit_none : get_or rows i None ≡ None → walk step (is_free_at p) (i + 1) xs₀ ≡ record { grid = xs; changed = m; stopped = None }
+    visit_none e = walk_past step (is_free_at p) xs₀ xs i m so_far (row-none p rows i stands lt e)
 
     module _
         (st : Stencil)
@@ -104,18 +105,17 @@ module _
         (t : Turn E)
         (e : get_or rows i None ≡ Some st)
         (h : Shows xs i st s)
-        (said : (p : Plan) (ys : List E) (j : ℕ) → Sees p ys j s → t ≡ step p ys j)
+        (said : (j : ℕ) → Sees p xs j s → t ≡ step xs j)
       where
-        pub visit_some :
-            (x : Turn E) → t ≡ x → (p : Plan) → Stands p rows → walk (step p) (is_free_at p) (i + 1) xs₀ ≡ turned (step p) (is_free_at p) (record { grid = xs; changed = m; stopped = None }) i x
-        visit_some x same p stands =
+        pub visit_some : (x : Turn E) → t ≡ x → walk step (is_free_at p) (i + 1) xs₀ ≡ turned step (is_free_at p) (record { grid = xs; changed = m; stopped = None }) i x
+        visit_some x same =
             let q = row-free p rows i st stands lt e in
             let sees : Sees p xs i s = record {
               equation = subst (Equation p i) (sym h.stencil) q;
               shows = subst (λ (y : Stencil). Shows xs i y s) (sym h.stencil) h;
             } in
-            walk_turn (step p) (is_free_at p) xs₀ xs i m (so_far p stands) x (free_true p i q.free) (sym (said p xs i sees) ∙ same)
+            walk_turn step (is_free_at p) xs₀ xs i m so_far x (free_true p i q.free) (sym (said i sees) ∙ same)
 
-        pub visit_stop : t ≡ Stop → (p : Plan) → Stands p rows → walk (step p) (is_free_at p) (size p) xs₀ ≡ record { grid = xs; changed = m; stopped = Some i }
-        visit_stop same p stands =
-            walk-stopped (step p) (is_free_at p) xs₀ (record { grid = xs; changed = m; stopped = Some i }) i (i + 1) (size p) (visit_some Stop same p stands) refl (omega (arith, stands.count))
+        pub visit_stop : t ≡ Stop → walk step (is_free_at p) (size p) xs₀ ≡ record { grid = xs; changed = m; stopped = Some i }
+        visit_stop same =
+            walk-stopped step (is_free_at p) xs₀ (record { grid = xs; changed = m; stopped = Some i }) i (i + 1) (size p) (visit_some Stop same) refl (omega (arith, stands.count))

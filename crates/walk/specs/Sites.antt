@@ -1,7 +1,7 @@
 -- When a site shows a cell of a plan with the entries of a grid.
-use Rattle.std.specs.Prelude.{◌≡◌, ℕ, List, length, Option, slice_index_or}
+use Rattle.std.specs.Prelude.{◌≡◌, ℕ, List, length, slice_index_or}
 use Rattle.section.specs.Plan.{Plan, size, Free}
-use Rattle.stencil.specs.Stencils.{Equation, Stands}
+use Rattle.stencil.specs.Stencils.{Equation}
 use Rattle.stencil.specs.declared.types.Stencil.{Stencil}
 use Rattle.walk.specs.declared.types.Site.{Site}
 use Rattle.walk.specs.declared.types.Turn.{Turn}
@@ -33,9 +33,7 @@ Keeps fair Stay = Unit {0}
 Keeps fair (Put e) = fair e
 Keeps fair Stop = Unit {0}
 
--- the rows are the equations of some plan, and the grid has a fair entry at each of its free cells
-pub record Walkable {E : Type 0} (fair : E → Type 0) (rows : List (Option Stencil)) (xs : List E) : Type 0 where
-  pub plan : Plan
-  pub stands : Stands plan rows
-  pub count : length xs ≡ size plan
-  pub entries : (i : ℕ) → Free plan i → (d : E) → fair (slice_index_or xs i d)
+-- the grid has an entry for each cell of the plan, and a fair one at each free cell
+pub record Walkable {E : Type 0} (fair : E → Type 0) (p : Plan) (xs : List E) : Type 0 where
+  pub count : length xs ≡ size p
+  pub entries : (i : ℕ) → Free p i → (d : E) → fair (slice_index_or xs i d)

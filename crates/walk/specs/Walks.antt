@@ -2,7 +2,7 @@
 use Rattle.std.specs.Prelude.{ℕ, zero, suc, ◌+◌, Bool, cond, not, ◌&&◌, ◌||◌, List, is_some, Some, None, Ok, Err, Option, Result, ◌==◌, slice_set}
 use Rattle.walk.specs.declared.types.Turn.{Turn}
 use Rattle.walk.specs.declared.types.Turn.TheVariants.{Stay, Put, Stop}
-use Rattle.walk.specs.declared.types.Walked.{Walked}
+use Rattle.walk.specs.declared.types.Halted.{Halted}
 use Rattle.walk.specs.declared.types.Stopped.{Stopped}
 
 -- the grid so far, the cells changed, and the cell at which a step stopped
@@ -48,8 +48,9 @@ module _ {E : Type 0} (step : List E → ℕ → Turn E) (free : ℕ → Bool) (
   run (suc n) xs = cond (ended (run n xs)) (run n xs) (onward (run n xs) (walk step free size (run n xs).grid))
 
 -- what the code answers beside its grid
-abbrev pub walked_as : {E : Type 0} → List E → Walked → Walk E
-walked_as xs r = record { grid = xs; changed = r.changed; stopped = r.stopped }
+abbrev pub walked_as : {E : Type 0} → List E → Result ℕ Halted → Walk E
+walked_as xs (Ok n) = record { grid = xs; changed = n; stopped = None }
+walked_as xs (Err h) = record { grid = xs; changed = h.changed; stopped = Some h.cell }
 
 abbrev pub ran_as : {E : Type 0} → List E → Result (ℕ × ℕ) Stopped → Run E
 ran_as xs (Ok r) = record { grid = xs; walks = r.0; changed = r.1; stopped = None }

@@ -19,11 +19,11 @@ pub enum Turn<E> {
     Stop,
 }
 
-// A walk: the cells changed, and the cell at which it was stopped.
+// A walk that a step stopped: the cell, and the cells changed before it.
 #[derive(Clone, Copy)]
-pub struct Walked {
+pub struct Halted {
+    pub cell: usize,
     pub changed: usize,
-    pub stopped: Option<usize>,
 }
 
 // A run that a step stopped: the cell, and the walks begun with the cells changed in the last.

@@ -1,9 +1,10 @@
-use Rattle.std.proofs.Common.{◌≡◌, ◌+◌, ◌*◌, None}
-use Rattle.scan.specs.First.{first}
+use Rattle.std.proofs.Common.{◌≡◌, ℕ, ◌+◌, ◌*◌, Bool, None}
+use Rattle.scan.specs.First.{first, Tests}
 use Rattle.scan.proofs.first_failing.Given as goal
 
 abbrev pub invariant-loop-column : goal.invariant-loop-column
-invariant-loop-column g l = first (g.C.Check.fails l.check) (l.row * l.shape.wide + l.column) ≡ None
+invariant-loop-column g l =
+    (test : ℕ → Bool) → Tests (goal.F-post g l.fails) test (l.shape.wide * l.shape.high) → first test (l.row * l.shape.wide + l.column) ≡ None
 
 abbrev pub invariant-loop-row : goal.invariant-loop-row
-invariant-loop-row g l = first (g.C.Check.fails l.check) (l.row * l.shape.wide) ≡ None
+invariant-loop-row g l = (test : ℕ → Bool) → Tests (goal.F-post g l.fails) test (l.shape.wide * l.shape.high) → first test (l.row * l.shape.wide) ≡ None

@@ -1,15 +1,11 @@
-use Rattle.std.proofs.Common.{length, ap, ◌∙◌}
+use Rattle.std.proofs.Common.{ap, ◌∙◌, rules}
 use Rattle.refusal.specs.Refusals.{at_first, fault}
 use Rattle.refusal.specs.declared.types.Level.TheVariants.{Call}
-use Rattle.certificate.proofs.Laying.{laid-inside}
-use Rattle.certificate.proofs.Finding.{first_slack}
+use Rattle.certificate.proofs.Finding.{first-whole}
 use Rattle.certificate.proofs.propose.margins_enough.Goals as goal
 
-pub first_failing-requires : goal.first_failing-requires
-first_failing-requires c = λ k h. ((laid-inside c.args.shape c.args.rows.now (length c.args.grid.now) c.requires.laid k h).0, c.requires.fair)
-
 pub returns-in-Some : goal.returns-in-Some
-returns-in-Some c = λ p st. ap (λ o. at_first o (fault Call 12)) (c.in-Some.ensures ∙ first_slack p c.args.shape c.args.rows.now c.args.grid.now c.requires.laid st)
+returns-in-Some g c = ap (λ o. at_first o (fault Call 12)) (c.in-Some.ensures _ (λ k b l e. search rules) ∙ first-whole (g.G.Ground.plan c.args.laid.now) c.shape.result c.shape.ensures.wide c.shape.ensures.high _)
 
 pub returns-in-None : goal.returns-in-None
-returns-in-None c = λ p st. ap (λ o. at_first o (fault Call 12)) (c.in-None.ensures ∙ first_slack p c.args.shape c.args.rows.now c.args.grid.now c.requires.laid st)
+returns-in-None g c = ap (λ o. at_first o (fault Call 12)) (c.in-None.ensures _ (λ k b l e. search rules) ∙ first-whole (g.G.Ground.plan c.args.laid.now) c.shape.result c.shape.ensures.wide c.shape.ensures.high _)

@@ -1,15 +1,11 @@
-use Rattle.std.proofs.Common.{length, ap, ◌∙◌}
+use Rattle.std.proofs.Common.{ap, ◌∙◌, rules}
 use Rattle.refusal.specs.Refusals.{at_first, fault}
 use Rattle.refusal.specs.declared.types.Level.TheVariants.{Call}
-use Rattle.certificate.proofs.Laying.{laid-inside}
-use Rattle.certificate.proofs.Finding.{first-wide}
+use Rattle.certificate.proofs.Finding.{first-whole}
 use Rattle.certificate.proofs.propose.spreads_near.Goals as goal
 
-pub first_failing-requires : goal.first_failing-requires
-first_failing-requires c = λ k h. ((laid-inside c.args.shape c.args.rows.now (length c.args.grid.now) c.requires.laid k h).0, c.requires.fair, c.requires.some)
-
 pub returns-in-Some : goal.returns-in-Some
-returns-in-Some c = λ p us st of. ap (λ o. at_first o (fault Call 13)) (c.in-Some.ensures ∙ first-wide p c.args.shape c.args.rows.now us c.args.grid.now c.args.measure c.requires.laid st of)
+returns-in-Some g c = ap (λ o. at_first o (fault Call 13)) (c.in-Some.ensures _ (λ k b l e. search rules) ∙ first-whole (g.G.Ground.plan c.args.laid.now) c.shape.result c.shape.ensures.wide c.shape.ensures.high _)
 
 pub returns-in-None : goal.returns-in-None
-returns-in-None c = λ p us st of. ap (λ o. at_first o (fault Call 13)) (c.in-None.ensures ∙ first-wide p c.args.shape c.args.rows.now us c.args.grid.now c.args.measure c.requires.laid st of)
+returns-in-None g c = ap (λ o. at_first o (fault Call 13)) (c.in-None.ensures _ (λ k b l e. search rules) ∙ first-whole (g.G.Ground.plan c.args.laid.now) c.shape.result c.shape.ensures.wide c.shape.ensures.high _)

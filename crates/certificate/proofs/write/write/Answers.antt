@@ -1,30 +1,18 @@
-use Rattle.std.proofs.Common.{◌≡◌, length, None, sym, ◌∙◌, arith}
-use Rattle.walk.proofs.Walking.{read, row-none}
-use Rattle.certificate.proofs.Rows.{row-cell}
-use Rattle.certificate.proofs.Writing.{write_past, write_here, write_whole}
+use Rattle.std.proofs.Common.{sym, ◌∙◌, arith}
+use Rattle.section.specs.Plan.{Plan}
+use Rattle.certificate.proofs.Writing.{write_past, write_here}
 use Rattle.certificate.proofs.write.write.Goals as goal
-use Rattle.certificate.proofs.write.write.Goals.{in-None, in-Some}
+use Rattle.certificate.proofs.write.write.Goals.{then-is_free, else-is_free}
 
-pub loop-index-preserved : goal.loop-index-preserved
-loop-index-preserved c =
-    let rows = c.args.rows.now in
-    let us = c.args.temperatures.now in
-    let ws = c.args.majorant.now in
-    let bs = c.args.grid.now in
-    let xs = c.loop-index.grid in
-    let i = c.loop-index.index in
-    let lt = c.loop-index-test.true in
-    let row = read rows i c.index-rows-index.result None lt c.index-rows-index.is in (
-      c.match-row.auto.grid ∙ c.loop-index.invariant.0,
-      λ p st of. elim c.match-row.branch [
-        | in-None w ↦ rw w.grid-is (write_past p c.args.basis us ws bs i xs (c.loop-index.invariant.1 p st of) (row-none p rows i st lt (sym row ∙ w.in-None.is)))
-        | in-Some w ↦ rw w.grid-is
-            (write_here p c.args.basis us ws bs i xs (c.loop-index.invariant.1 p st of) c.args.measure w.certified_at-own.result w.settled.result _ of
-            (row-cell p rows i _ st (sym row ∙ w.in-Some.is)) (omega (arith, c.loop-index.invariant.0)) w.certified_at-own.ensures w.settled.ensures)
-      ],
-    )
-
-pub returns : goal.returns
-returns c = λ p st of.
-    let end : length c.args.rows.now ≡ c.loop-index.index = omega (arith, c.loop-index-test.false, c.loop-index.auto.index-end) in
-    write_whole p c.args.basis c.args.temperatures.now c.args.majorant.now c.args.grid.now c.args.rows.now c.loop-index.index c.loop-index.grid st end (c.loop-index.invariant.1 p st of)
+pub loop-cell-preserved : goal.loop-cell-preserved
+loop-cell-preserved g c =
+    let p : Plan = g.G.Ground.plan c.args.laid.now in
+    let so_far = c.loop-cell.invariant.so_far in
+    record {
+      count = c.if-is_free.auto.grid ∙ c.loop-cell.invariant.count;
+      so_far = elim c.if-is_free.branch [
+        | then-is_free w ↦ rw w.grid-is (write_here p c.args.basis c.args.temperatures.now c.args.majorant.now c.args.grid.now c.loop-cell.cell c.loop-cell.grid so_far
+            w.certified_at-own.result w.settled.result _ (sym c.is_free.ensures ∙ w.if-is_free.true) (omega (arith, c.loop-cell-test.true, c.loop-cell.invariant.count)) w.certified_at-own.ensures w.settled.ensures)
+        | else-is_free w ↦ rw w.grid-is (write_past p c.args.basis c.args.temperatures.now c.args.majorant.now c.args.grid.now c.loop-cell.cell c.loop-cell.grid so_far (sym c.is_free.ensures ∙ w.if-is_free.false))
+      ];
+    }
