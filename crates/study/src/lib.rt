@@ -1,8 +1,9 @@
 // A study: one ground seen through a pin layer, with what is proved of it.
 #![tactic(auto)]
 
-mod check;
+mod equations;
 mod event;
+mod laid;
 pub mod proving;
 mod raise;
 mod relax;

@@ -1,17 +1,17 @@
 // What is proved of a study, and the pins that undo it.
-ghost use Rattle.std.specs.Prelude.{◌≡◌, length, MatchResult};
+ghost use Rattle.std.specs.Prelude.{◌≡◌, length};
 ghost use Rattle.section.specs.Plan.{free_count};
-ghost use Rattle.refusal.specs.Refusals.{answer_of, answer, at_first, unless_refused, clear, refuse, fault, fault_of};
+ghost use Rattle.refusal.specs.Refusals.{answer_of, answer, at_first, unless_refused, fault, Checked};
 ghost use Rattle.refusal.specs.declared.types.Level.TheVariants.{Walk};
 ghost use Rattle.steps.specs.Steps.{counts_of};
 ghost use Rattle.steps.specs.Tightening.{tighten_run};
 ghost use Rattle.certificate.specs.Certifying.{certificate_check, written};
 ghost use Rattle.certificate.specs.Counting.{open_count};
-ghost use Rattle.layers.specs.Layers.{pin_plan, pin_check, release_check};
+ghost use Rattle.layers.specs.Layers.{pin_check, release_check};
 ghost use Rattle.section.specs.Reading.{plain, brackets as brackets_of};
 ghost use Rattle.study.specs.Calls.{standing, length_check, certificate_of, certify_answer, certify_grid, certify_standing, tighten_answer, tighten_grid, tighten_standing, ask_check, pin_leaves, release_leaves, is_finished};
 ghost use Rattle.study.specs.Events.{walk_answer_of};
-ghost use Rattle.study.specs.Studies.{standing_of, pinning_of, Repinned, Becomes, Fits};
+ghost use Rattle.study.specs.Studies.{equations_of, standing_of, pinning_of, Repinned, Becomes, Fits};
 
 use crate::event::{Event, meets};
 use crate::tighten::tighten_laid;
@@ -28,7 +28,7 @@ use section::types::{Bracket, Shape};
 impl<G: Ground> Study<G> {
     // A grid must have an entry for each cell.
     pub(crate) fn sized(&self, length: usize) -> Result<Shape, Refusal>
-        ensures { MatchResult result (λ s. (length_check (pin_plan self.now.layer.pins.places (G.plan self.now.layer.below)) length ≡ clear) × Fits s (pin_plan self.now.layer.pins.places (G.plan self.now.layer.below)) length) (λ e. length_check (pin_plan self.now.layer.pins.places (G.plan self.now.layer.below)) length ≡ refuse (fault_of e)) }
+        ensures { Checked result (length_check (equations_of G.plan self.now) length) (λ s. Fits s (equations_of G.plan self.now) length) }
     {
         let shape = self.shape();
         if length != shape.cells() {
@@ -47,17 +47,17 @@ impl<G: Ground> Study<G> {
         basis: Basis,
         state: State,
     ) -> Result<Certificate, Refusal>
-        requires temperatures { Fits shape (pin_plan self.old.layer.pins.places (G.plan self.old.layer.below)) (length temperatures.now) }
-        requires majorant { Fits shape (pin_plan self.old.layer.pins.places (G.plan self.old.layer.below)) (length majorant.now) }
-        requires brackets { Fits shape (pin_plan self.old.layer.pins.places (G.plan self.old.layer.below)) (length brackets.old) }
-        ensures answer { answer_of result ≡ answer (certificate_check (pin_plan self.old.layer.pins.places (G.plan self.old.layer.below)) basis temperatures.now majorant.now brackets.old) (certificate_of (pin_plan self.old.layer.pins.places (G.plan self.old.layer.below)) self.old.tolerance.width basis temperatures.now majorant.now brackets.old) }
-        ensures grid { brackets.new ≡ unless_refused (certificate_check (pin_plan self.old.layer.pins.places (G.plan self.old.layer.below)) basis temperatures.now majorant.now brackets.old) brackets.old (written (pin_plan self.old.layer.pins.places (G.plan self.old.layer.below)) basis temperatures.now majorant.now brackets.old) }
-        ensures study { Becomes self.old self.new (unless_refused (certificate_check (pin_plan self.old.layer.pins.places (G.plan self.old.layer.below)) basis temperatures.now majorant.now brackets.old) (standing_of self.old) (standing state (open_count (pin_plan self.old.layer.pins.places (G.plan self.old.layer.below)) self.old.tolerance.width (written (pin_plan self.old.layer.pins.places (G.plan self.old.layer.below)) basis temperatures.now majorant.now brackets.old)))) }
+        requires temperatures { Fits shape (equations_of G.plan self.old) (length temperatures.now) }
+        requires majorant { Fits shape (equations_of G.plan self.old) (length majorant.now) }
+        requires brackets { Fits shape (equations_of G.plan self.old) (length brackets.old) }
+        ensures answer { answer_of result ≡ answer (certificate_check (equations_of G.plan self.old) basis temperatures.now majorant.now brackets.old) (certificate_of (equations_of G.plan self.old) self.old.tolerance.width basis temperatures.now majorant.now brackets.old) }
+        ensures grid { brackets.new ≡ unless_refused (certificate_check (equations_of G.plan self.old) basis temperatures.now majorant.now brackets.old) brackets.old (written (equations_of G.plan self.old) basis temperatures.now majorant.now brackets.old) }
+        ensures study { Becomes self.old self.new (unless_refused (certificate_check (equations_of G.plan self.old) basis temperatures.now majorant.now brackets.old) (standing_of self.old) (standing state (open_count (equations_of G.plan self.old) self.old.tolerance.width (written (equations_of G.plan self.old) basis temperatures.now majorant.now brackets.old)))) }
     {
-        self.lay_out();
-        let (rest, margin) = certify(shape, &self.rows, temperatures, majorant, brackets, basis)?;
+        let rows = self.layer.rows();
+        let (rest, margin) = certify(shape, rows, temperatures, majorant, brackets, basis)?;
         self.state = state;
-        self.open = count_open(&self.rows, brackets, self.tolerance);
+        self.open = count_open(rows, brackets, self.tolerance);
         Ok(Certificate {
             rest,
             margin,
@@ -73,9 +73,9 @@ impl<G: Ground> Study<G> {
         majorant: &[Majorant],
         brackets: &mut [BracketRow],
     ) -> Result<Certificate, Refusal>
-        ensures answer { answer_of result ≡ certify_answer (pin_plan self.old.layer.pins.places (G.plan self.old.layer.below)) self.old.tolerance.width self.old.state temperatures.now majorant.now brackets.old }
-        ensures grid { brackets.new ≡ certify_grid (pin_plan self.old.layer.pins.places (G.plan self.old.layer.below)) self.old.state temperatures.now majorant.now brackets.old }
-        ensures study { Becomes self.old self.new (certify_standing (pin_plan self.old.layer.pins.places (G.plan self.old.layer.below)) self.old.tolerance.width (standing_of self.old) temperatures.now majorant.now brackets.old) }
+        ensures answer { answer_of result ≡ certify_answer (equations_of G.plan self.old) self.old.tolerance.width self.old.state temperatures.now majorant.now brackets.old }
+        ensures grid { brackets.new ≡ certify_grid (equations_of G.plan self.old) self.old.state temperatures.now majorant.now brackets.old }
+        ensures study { Becomes self.old self.new (certify_standing (equations_of G.plan self.old) self.old.tolerance.width (standing_of self.old) temperatures.now majorant.now brackets.old) }
     {
         self.sized(temperatures.len())?;
         self.sized(majorant.len())?;
@@ -92,15 +92,15 @@ impl<G: Ground> Study<G> {
         most: usize,
         state: State,
     ) -> Result<(usize, usize), WalkFault>
-        requires { Fits shape (pin_plan self.old.layer.pins.places (G.plan self.old.layer.below)) (length brackets.old) }
-        ensures answer { walk_answer_of result ≡ answer (at_first (tighten_run (pin_plan self.old.layer.pins.places (G.plan self.old.layer.below)) most brackets.old).stopped (fault Walk 9)) (counts_of (tighten_run (pin_plan self.old.layer.pins.places (G.plan self.old.layer.below)) most brackets.old)) }
-        ensures grid { brackets.new ≡ (tighten_run (pin_plan self.old.layer.pins.places (G.plan self.old.layer.below)) most brackets.old).grid }
-        ensures study { Becomes self.old self.new (standing state (open_count (pin_plan self.old.layer.pins.places (G.plan self.old.layer.below)) self.old.tolerance.width (tighten_run (pin_plan self.old.layer.pins.places (G.plan self.old.layer.below)) most brackets.old).grid)) }
+        requires { Fits shape (equations_of G.plan self.old) (length brackets.old) }
+        ensures answer { walk_answer_of result ≡ answer (at_first (tighten_run (equations_of G.plan self.old) most brackets.old).stopped (fault Walk 9)) (counts_of (tighten_run (equations_of G.plan self.old) most brackets.old)) }
+        ensures grid { brackets.new ≡ (tighten_run (equations_of G.plan self.old) most brackets.old).grid }
+        ensures study { Becomes self.old self.new (standing state (open_count (equations_of G.plan self.old) self.old.tolerance.width (tighten_run (equations_of G.plan self.old) most brackets.old).grid)) }
     {
-        self.lay_out();
-        let ran = tighten_laid(shape, &self.rows, brackets, most);
+        let rows = self.layer.rows();
+        let ran = tighten_laid(shape, rows, brackets, most);
         self.state = state;
-        self.open = count_open(&self.rows, brackets, self.tolerance);
+        self.open = count_open(rows, brackets, self.tolerance);
         ran
     }
 
@@ -111,9 +111,9 @@ impl<G: Ground> Study<G> {
         brackets: &mut [BracketRow],
         walks: i64,
     ) -> Result<(usize, usize), Refusal>
-        ensures answer { answer_of result ≡ tighten_answer (pin_plan self.old.layer.pins.places (G.plan self.old.layer.below)) self.old.state brackets.old walks }
-        ensures grid { brackets.new ≡ tighten_grid (pin_plan self.old.layer.pins.places (G.plan self.old.layer.below)) self.old.state brackets.old walks }
-        ensures study { Becomes self.old self.new (tighten_standing (pin_plan self.old.layer.pins.places (G.plan self.old.layer.below)) self.old.tolerance.width (standing_of self.old) brackets.old walks) }
+        ensures answer { answer_of result ≡ tighten_answer (equations_of G.plan self.old) self.old.state brackets.old walks }
+        ensures grid { brackets.new ≡ tighten_grid (equations_of G.plan self.old) self.old.state brackets.old walks }
+        ensures study { Becomes self.old self.new (tighten_standing (equations_of G.plan self.old) self.old.tolerance.width (standing_of self.old) brackets.old walks) }
     {
         let shape = self.sized(brackets.len())?;
         let (state, _) = meets(self.state, Event::Tightening)?;
@@ -124,7 +124,7 @@ impl<G: Ground> Study<G> {
 
     // The bracket of a free cell, while brackets are proved.
     pub fn bracket(&self, brackets: &[BracketRow], cell: usize) -> Result<Bracket, Refusal>
-        ensures { MatchResult result (λ b. (ask_check (pin_plan self.now.layer.pins.places (G.plan self.now.layer.below)) self.now.state (length brackets.now) cell ≡ clear) × (plain b ≡ brackets_of brackets.now cell)) (λ e. ask_check (pin_plan self.now.layer.pins.places (G.plan self.now.layer.below)) self.now.state (length brackets.now) cell ≡ refuse (fault_of e)) }
+        ensures { Checked result (ask_check (equations_of G.plan self.now) self.now.state (length brackets.now) cell) (λ b. plain b ≡ brackets_of brackets.now cell) }
     {
         self.sized(brackets.len())?;
         match self.state {
@@ -166,7 +166,7 @@ impl<G: Ground> Study<G> {
     fn begin(&mut self, state: State)
         ensures layer { self.new.layer ≡ self.old.layer }
         ensures tolerance { self.new.tolerance ≡ self.old.tolerance }
-        ensures stands { standing_of self.new ≡ standing state (free_count (pin_plan self.old.layer.pins.places (G.plan self.old.layer.below))) }
+        ensures stands { standing_of self.new ≡ standing state (free_count (equations_of G.plan self.old)) }
     {
         self.state = state;
         self.open = free_cells(&self.layer);

@@ -3,7 +3,8 @@ use Rattle.section.specs.Plan.{Plan, is_free_at, size}
 use Rattle.section.specs.declared.rows.Majorant.{Majorant}
 use Rattle.walk.specs.Walks.{Run, run}
 use Rattle.steps.specs.Steps.{raising, raised_of}
-use Rattle.study.proofs.Laying.{laid_rows, ran-grid}
+use Rattle.certificate.proofs.Laying.{laid_rows}
+use Rattle.study.proofs.Laying.{ran-grid}
 use Rattle.study.proofs.raise.raise_laid.Goals as goal
 
 pub clear-requires : goal.clear-requires

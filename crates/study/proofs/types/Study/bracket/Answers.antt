@@ -1,5 +1,5 @@
 use Rattle.std.proofs.Common.{length, sym, ap, ◌∙◌}
-use Rattle.layers.specs.Layers.{pin_plan}
+use Rattle.study.specs.Studies.{equations_of}
 use Rattle.section.specs.Reading.{widest, row_bracket}
 use Rattle.std.proofs.lemmas.List.{get_or_default}
 use Rattle.study.proofs.Checks.{may_ask}
@@ -7,7 +7,7 @@ use Rattle.study.proofs.types.Study.bracket.Goals as goal
 
 pub returns : goal.returns
 returns g c =
-    let p = pin_plan c.args.self.now.layer.pins.places (g.G.Ground.plan c.args.self.now.layer.below) in
+    let p = equations_of g.G.Ground.plan c.args.self.now in
     let bs = c.args.brackets.now in
     let fit = c.in_ok-sized.ensures in
     let inside = c.if-cell-brackets.false in (

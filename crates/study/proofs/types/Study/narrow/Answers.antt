@@ -1,33 +1,23 @@
-use Rattle.std.proofs.Common.{sym, ap, subst}
-use Rattle.stencil.specs.Stencils.{Stands}
-use Rattle.layers.specs.Layers.{pin_plan}
-use Rattle.study.proofs.Checks.{counted}
+use Rattle.std.proofs.Common.{refl, ap, ◌∙◌}
+use Rattle.certificate.specs.Counting.{open_count}
+use Rattle.study.specs.Calls.{standing}
+use Rattle.study.specs.Studies.{equations_of}
+use Rattle.study.proofs.Laying.{laid_by}
 use Rattle.study.proofs.types.Study.narrow.Goals as goal
 
 pub tighten_laid-ran-requires : goal.tighten_laid-ran-requires
-tighten_laid-ran-requires g c =
-    let p = pin_plan c.args.self.now.layer.pins.places (g.G.Ground.plan c.args.self.now.layer.below) in
-    record {
-      plan = p;
-      stands = subst (Stands p) (sym c.deref.ensures.value) c.lay_out.ensures.stands;
-      wide = c.requires.wide;
-      high = c.requires.high;
-      count = c.requires.count;
-    }
+tighten_laid-ran-requires g c = laid_by c.requires c.rows-rows.ensures
 
 pub returns : goal.returns
 returns g c =
-    let p = pin_plan c.args.self.now.layer.pins.places (g.G.Ground.plan c.args.self.now.layer.below) in
-    let stands : Stands p c.deref.result.now = subst (Stands p) (sym c.deref.ensures.value) c.lay_out.ensures.stands in
-    let again : Stands p c.deref-2.result.now = subst (Stands p) (sym c.deref-2.ensures.value) c.lay_out.ensures.stands in
-    let grid = c.tighten_laid-ran.ensures.grid p stands in
+    let p = equations_of g.G.Ground.plan c.args.self.now in
+    let grid = c.tighten_laid-ran.ensures.grid p c.rows-rows.ensures in
     record {
-      answer = c.tighten_laid-ran.ensures.answer p stands;
+      answer = c.tighten_laid-ran.ensures.answer p c.rows-rows.ensures;
       grid = grid;
       study = record {
-        layer = c.lay_out.ensures.same.layer;
-        tolerance = c.lay_out.ensures.same.tolerance;
-        stands = counted p c.args.self.now.tolerance.width c.lay_out.new.self.tolerance.width c.args.state c.count_open-self.result _ c.tighten_laid-ran.new.grid
-            grid (ap (λ t. t.width) c.lay_out.ensures.same.tolerance) (c.count_open-self.ensures p again);
+        layer = refl;
+        tolerance = refl;
+        stands = ap (standing c.args.state) (c.count_open-self.ensures p c.rows-rows.ensures ∙ ap (open_count p c.args.self.now.tolerance.width) grid);
       };
     }

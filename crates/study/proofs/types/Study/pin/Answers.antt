@@ -48,6 +48,6 @@ returns g c =
         count = ap (λ l. used l.pins.places) c.begin.ensures.layer ∙ (let a = simp to_z-of_z at c.pin.ensures.count in a) ∙ unless_part (λ y. y.count) k x (anew ground pins n);
         stands = c.begin.ensures.stands
             ∙ stands-anew k x ground pins n c.in_ok-state.state (g.G.Ground.plan c.pin.new.self.below) (pinned_at c.pin.new.self.pins.places)
-            (simp to_z-of_z at c.in_ok-pin.ensures.answer) c.in_ok-state.ensures.1 (ap g.G.Ground.plan c.pin.ensures.kept) (λ i. simp to_z-of_z at (c.pin.ensures.pins i));
+            (simp to_z-of_z at c.in_ok-pin.ensures.answer) c.in_ok-state.ensures.1.0 (ap g.G.Ground.plan c.pin.ensures.kept) (λ i. simp to_z-of_z at (c.pin.ensures.pins i));
       };
     }

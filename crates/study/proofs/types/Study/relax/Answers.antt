@@ -1,16 +1,16 @@
-use Rattle.std.proofs.Common.{sym, refl, ap, ◌∙◌, subst}
+use Rattle.std.proofs.Common.{ap, ◌∙◌}
 use Rattle.std.proofs.lemmas.Result.{err_from_is_err_and}
 use Rattle.std.proofs.lemmas.Int.{to_z-of_z}
 use Rattle.refusal.specs.Refusals.{clear, refuse, fault_of}
-use Rattle.stencil.specs.Stencils.{Stands}
-use Rattle.layers.specs.Layers.{pin_plan}
+use Rattle.study.specs.Studies.{equations_of}
+use Rattle.study.proofs.Laying.{laid_by}
 use Rattle.study.proofs.Checks.{relax_is}
 use Rattle.study.proofs.types.Study.relax.Goals as goal
 
 pub returns-in_err-shape : goal.returns-in_err-shape
 returns-in_err-shape g c =
     let q = err_from_is_err_and c.from_residual.result c.from_residual.ensures.1 in
-    let p = pin_plan c.args.self.now.layer.pins.places (g.G.Ground.plan c.args.self.now.layer.below) in
+    let p = equations_of g.G.Ground.plan c.args.self.now in
     let f = c.ranges.factor in
     let w = c.ranges.walks in
     let e = simp to_z-of_z at c.in_err-shape.ensures in
@@ -18,31 +18,19 @@ returns-in_err-shape g c =
     record {
       answer = rw (q.1, q.2) (ap (λ x. x.0) r);
       grid = ap (λ x. x.1) r;
-      study = record { layer = refl; tolerance = refl; state = refl; count = refl };
     }
 
 pub relax_laid-requires : goal.relax_laid-requires
-relax_laid-requires g c =
-    let p = pin_plan c.args.self.now.layer.pins.places (g.G.Ground.plan c.args.self.now.layer.below) in
-    let r = c.in_ok-shape.ensures in
-    record {
-      plan = p;
-      stands = subst (Stands p) (sym c.deref.ensures.value) c.lay_out.ensures.stands;
-      wide = r.wide;
-      high = r.high;
-      count = r.count;
-    }
+relax_laid-requires g c = laid_by c.in_ok-shape.ensures.1.fits c.rows-rows.ensures
 
 pub returns : goal.returns
 returns g c =
-    let p = pin_plan c.args.self.now.layer.pins.places (g.G.Ground.plan c.args.self.now.layer.below) in
-    let stands : Stands p c.deref.result.now = subst (Stands p) (sym c.deref.ensures.value) c.lay_out.ensures.stands in
+    let p = equations_of g.G.Ground.plan c.args.self.now in
     let f = c.ranges.factor in
     let w = c.ranges.walks in
-    let e = simp to_z-of_z at c.in_ok-shape.ensures.fine in
+    let e = simp to_z-of_z at c.in_ok-shape.ensures.0 in
     let r = relax_is p c.args.grid.now c.args.factor c.args.walks clear e in
     record {
-      answer = (let a = simp to_z-of_z at (c.relax_laid.ensures.answer p stands) in a) ∙ ap (λ x. x.0) r;
-      grid = (let a = simp to_z-of_z at (c.relax_laid.ensures.grid p stands) in a) ∙ ap (λ x. x.1) r;
-      study = c.lay_out.ensures.same;
+      answer = (let a = simp to_z-of_z at (c.relax_laid.ensures.answer p c.rows-rows.ensures) in a) ∙ ap (λ x. x.0) r;
+      grid = (let a = simp to_z-of_z at (c.relax_laid.ensures.grid p c.rows-rows.ensures) in a) ∙ ap (λ x. x.1) r;
     }

@@ -45,6 +45,6 @@ returns g c =
         count = ap (λ l. used l.pins.places) c.begin.ensures.layer ∙ c.release.ensures.count ∙ unless_part (λ y. y.count) k x (anew ground pins n);
         stands = c.begin.ensures.stands
             ∙ stands-anew k x ground pins n c.in_ok-state.state (g.G.Ground.plan c.release.new.self.below) (pinned_at c.release.new.self.pins.places)
-            c.in_ok-release.ensures.answer c.in_ok-state.ensures.1 (ap g.G.Ground.plan c.release.ensures.kept) c.release.ensures.pins;
+            c.in_ok-release.ensures.answer c.in_ok-state.ensures.1.0 (ap g.G.Ground.plan c.release.ensures.kept) c.release.ensures.pins;
       };
     }

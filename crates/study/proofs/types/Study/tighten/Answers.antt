@@ -2,14 +2,14 @@ use Rattle.std.proofs.Common.{ap, ◌∙◌}
 use Rattle.std.proofs.lemmas.Result.{err_from_is_err_and}
 use Rattle.std.proofs.lemmas.Int.{to_z-of_z}
 use Rattle.refusal.specs.Refusals.{clear}
-use Rattle.layers.specs.Layers.{pin_plan}
+use Rattle.study.specs.Studies.{equations_of}
 use Rattle.study.proofs.Checks.{may_tighten, tighten_is, tighten-stands}
 use Rattle.study.proofs.types.Study.tighten.Goals as goal
 
 pub returns-in_err-counts : goal.returns-in_err-counts
 returns-in_err-counts g c =
     let q = err_from_is_err_and c.from_residual-in_err-counts.result c.from_residual-in_err-counts.ensures.1 in
-    let p = pin_plan c.args.self.now.layer.pins.places (g.G.Ground.plan c.args.self.now.layer.below) in
+    let p = equations_of g.G.Ground.plan c.args.self.now in
     let s = c.args.self.now.state in
     let bs = c.args.brackets.now in
     let w = c.ranges.walks in
@@ -26,13 +26,13 @@ returns-in_err-counts g c =
       study = record {
         layer = k.layer;
         tolerance = k.tolerance;
-        stands = k.stands ∙ tighten-stands p s bs c.args.walks c.args.self.now.tolerance.width c.in_ok-state.state c.args.self.now.«open» fine proved.0 proved.1;
+        stands = k.stands ∙ tighten-stands p s bs c.args.walks c.args.self.now.tolerance.width c.in_ok-state.state c.args.self.now.«open» fine proved.0 proved.1.0;
       };
     }
 
 pub returns : goal.returns
 returns g c =
-    let p = pin_plan c.args.self.now.layer.pins.places (g.G.Ground.plan c.args.self.now.layer.below) in
+    let p = equations_of g.G.Ground.plan c.args.self.now in
     let s = c.args.self.now.state in
     let bs = c.args.brackets.now in
     let w = c.ranges.walks in
@@ -49,6 +49,6 @@ returns g c =
       study = record {
         layer = k.layer;
         tolerance = k.tolerance;
-        stands = k.stands ∙ tighten-stands p s bs c.args.walks c.args.self.now.tolerance.width c.in_ok-state.state c.args.self.now.«open» fine proved.0 proved.1;
+        stands = k.stands ∙ tighten-stands p s bs c.args.walks c.args.self.now.tolerance.width c.in_ok-state.state c.args.self.now.«open» fine proved.0 proved.1.0;
       };
     }

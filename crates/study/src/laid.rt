@@ -1,0 +1,88 @@
+ghost use Rattle.std.specs.Prelude.{◌≡◌, ℕ, ◌+◌, ◌-◌, Some, None, MatchResult};
+ghost use Rattle.refusal.specs.Refusals.{answer, answer_of, unless_refused};
+ghost use Rattle.stencil.specs.Stencils.{Stands};
+ghost use Rattle.layers.specs.Layers.{altered, pin_check, pinned_at, release_check};
+ghost use Rattle.layers.specs.Tables.{lookup, used};
+ghost use Rattle.study.specs.Plans.{plan_through};
+
+use crate::equations::Equations;
+use ground::ground::Ground;
+use layers::layer::PinLayer;
+use refusal::types::Refusal;
+use section::types::{Record, Shape};
+use std::alloc::{AllocFailed, Global};
+use std::marker::Model;
+use stencil::types::Stencil;
+
+// A pin layer, seen as such, with its equations: they are laid out anew whenever its pins change.
+#[derive(Drop)]
+pub(crate) struct LaidLayer<G: Ground> {
+    layer: PinLayer<G>,
+    equations: Equations,
+}
+
+impl<G: Ground> Model for LaidLayer<G> {
+    ghost use Rattle.layers.specs.declared.layer.PinLayer.{PinLayer};
+    ghost use Rattle.stencil.specs.Stencils.{Stands};
+    ghost use Rattle.study.specs.Plans.{plan_through};
+
+    ghost Value = { PinLayer G };
+
+    ghost view = { λ s. s.layer };
+
+    ghost invariant = { λ s. Stands (plan_through G.plan s.layer) s.equations.rows.items };
+}
+
+impl<G: Ground> LaidLayer<G> {
+    // No pin over a ground, which comes back where there is no memory.
+    pub(crate) fn new(heap: Global, ground: G) -> Result<LaidLayer<G>, AllocFailed<G>>
+        ensures { MatchResult result (λ l. (l.below ≡ ground) × ((j : ℕ) → lookup l.pins.places j ≡ None) × (used l.pins.places ≡ 0)) (λ e. e.value ≡ ground) }
+    {
+        let Ok(mut equations) = Equations::new(heap) else {
+            return Err(AllocFailed { value: ground });
+        };
+        let layer = PinLayer::new(ground);
+        equations.lay_out(&layer);
+        Ok(LaidLayer { layer, equations })
+    }
+
+    pub(crate) fn rows(&self) -> &[Option<Stencil>]
+        ensures { Stands (plan_through G.plan self.now) result.now }
+    {
+        &self.equations.rows
+    }
+
+    pub(crate) fn pin(&mut self, cell: usize, temperature: i64) -> Result<(), Refusal>
+        ensures answer { answer_of result ≡ answer (pin_check (G.plan self.old.below) self.old.pins.places cell temperature) tt }
+        ensures pins { (j : ℕ) → pinned_at self.new.pins.places j ≡ unless_refused (pin_check (G.plan self.old.below) self.old.pins.places cell temperature) (pinned_at self.old.pins.places j) (altered (pinned_at self.old.pins.places) cell (Some temperature) j) }
+        ensures count { used self.new.pins.places ≡ unless_refused (pin_check (G.plan self.old.below) self.old.pins.places cell temperature) (used self.old.pins.places) (used self.old.pins.places + 1) }
+        ensures kept { self.new.below ≡ self.old.below }
+    {
+        self.layer.pin(cell, temperature)?;
+        self.equations.lay_out(&self.layer);
+        Ok(())
+    }
+
+    pub(crate) fn release(&mut self, cell: usize) -> Result<(), Refusal>
+        ensures answer { answer_of result ≡ answer (release_check (G.plan self.old.below) self.old.pins.places cell) tt }
+        ensures pins { (j : ℕ) → pinned_at self.new.pins.places j ≡ unless_refused (release_check (G.plan self.old.below) self.old.pins.places cell) (pinned_at self.old.pins.places j) (altered (pinned_at self.old.pins.places) cell None j) }
+        ensures count { used self.new.pins.places ≡ unless_refused (release_check (G.plan self.old.below) self.old.pins.places cell) (used self.old.pins.places) (used self.old.pins.places - 1) }
+        ensures kept { self.new.below ≡ self.old.below }
+    {
+        self.layer.release(cell)?;
+        self.equations.lay_out(&self.layer);
+        Ok(())
+    }
+}
+
+impl<G: Ground> Ground for LaidLayer<G> {
+    ghost plan = { λ s. plan_through G.Ground.plan s };
+
+    fn shape(&self) -> Shape {
+        self.layer.shape()
+    }
+
+    fn record(&self, index: usize) -> Record {
+        self.layer.record(index)
+    }
+}
