@@ -1,5 +1,5 @@
 -- What a history says of the study it has led to.
-use Rattle.std.proofs.Common.{◌≡◌, List, ℤ, sym, ap, ◌∙◌}
+use Rattle.std.proofs.Common.{◌≡◌, List, ℤ, sym, refl, ap, ◌∙◌}
 use mathlib.Core.Path.{fun_ext}
 use Rattle.section.specs.Plan.{Plan}
 use Rattle.section.specs.declared.rows.BracketRow.{BracketRow}
@@ -49,6 +49,10 @@ module _ {G : Type 0} {ground : Plan} {s : Study G} {start : List BracketRow} {h
 
   pub pinning_is : pinning_of s ≡ pinning_by ground s.tolerance.width start h
   pinning_is = pinned_is standing_is
+
+-- a call that leaves the study as it was
+pub unchanged : {G : Type 0} (s : Study G) → Repinned s s (pinning_of s)
+unchanged s = record { below = refl; tolerance = refl; pins = λ i. refl; count = refl; stands = refl }
 
 module _ {G : Type 0} (s s' : Study G) where
   -- a call that leaves the pins

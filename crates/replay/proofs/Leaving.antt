@@ -1,7 +1,7 @@
 -- What each call leaves and answers is what its event says.
-use Rattle.std.proofs.Common.{◌≡◌, ℕ, ◌+◌, ◌-◌, Bool, true, false, cond, ◌&&◌, eqb, List, ◌∷◌, ℤ, Some, None, Ok, Err, Result, sym, refl, ap, ◌∙◌, MatchResult}
+use Rattle.std.proofs.Common.{◌≡◌, ℕ, ◌+◌, ◌-◌, Bool, true, false, cond, ◌&&◌, eqb, List, ◌∷◌, ℤ, Some, None, Ok, Err, Result, sym, refl, ap, ◌∙◌}
 use mathlib.Core.Path.{fun_ext}
-use Rattle.refusal.specs.Refusals.{Check, clear, refuse, ◌then◌, answer, fault_of, unless_refused}
+use Rattle.refusal.specs.Refusals.{Check, clear, refuse, ◌then◌, answer, unless_refused, Checked}
 use Rattle.refusal.specs.declared.types.Refusal.{Refusal}
 use Rattle.section.specs.Plan.{Plan, size, is_free_at, count_to, free_count}
 use Rattle.section.specs.Reading.{plain, brackets}
@@ -70,7 +70,7 @@ module _ (p : Plan) (tolerance : ℤ) (bs w : List BracketRow) where
 
 -- the answer to the question for a bracket
 pub ask_is :
-    (r : Result Bracket Refusal) (k : Check) (x : BracketRow) → MatchResult r (λ b. (k ≡ clear) × (plain b ≡ x)) (λ e. k ≡ refuse (fault_of e)) →
+    (r : Result Bracket Refusal) (k : Check) (x : BracketRow) → Checked r k (λ b. plain b ≡ x) →
     bracket_answer r ≡ answer k x
 ask_is (Ok b) k x so = ap (answer clear) so.1 ∙ sym (ap (λ j. answer j x) so.0)
 ask_is (Err e) k x so = sym (ap (λ j. answer j x) so)

@@ -1,7 +1,7 @@
 -- What each call needs to have been made.
-use Rattle.std.proofs.Common.{◌≡◌, ℕ, Bool, List, [], ◌∷◌, length, ℤ, nat_abs, vec_items, Result, Vec, sym, refl, ap, ◌∙◌, MatchResult}
+use Rattle.std.proofs.Common.{◌≡◌, ℕ, Bool, List, [], ◌∷◌, length, ℤ, nat_abs, vec_items, Result, Vec, sym, refl, ap, ◌∙◌}
 use Rattle.std.specs.declared.alloc.Global.{Global}
-use Rattle.refusal.specs.Refusals.{Check, clear, refuse, Answer, answer, answer_of, fault_of}
+use Rattle.refusal.specs.Refusals.{Check, Answer, answer, answer_of, Checked}
 use Rattle.refusal.specs.declared.types.Refusal.{Refusal}
 use Rattle.section.specs.Limits.{numbers}
 use Rattle.section.specs.Plan.{Plan}
@@ -15,8 +15,7 @@ use Rattle.certificate.specs.Certifying.{written}
 use Rattle.steps.specs.Tightening.{tighten_run}
 use Rattle.steps.specs.declared.report.Raised.{Raised as Report}
 use Rattle.study.specs.Calls.{Pinning, length_check, walks, relax_answer, relax_grid, raise_answer, raise_grid, basis_of, certify_check, certificate_of, certify_answer, certify_grid, certify_standing, tighten_answer, tighten_grid, tighten_standing, ask_check, pin_leaves, release_leaves, is_finished}
-use Rattle.study.specs.Studies.{standing_of, pinning_of, Becomes, Same, Repinned}
-use Rattle.study.proofs.Checks.{same_stands}
+use Rattle.study.specs.Studies.{standing_of, pinning_of, Becomes, Repinned}
 use Rattle.study.specs.declared.types.Certificate.{Certificate}
 use Rattle.study.specs.declared.types.State.{State}
 use Rattle.study.specs.declared.types.Study.{Study}
@@ -29,15 +28,12 @@ use Rattle.replay.specs.declared.types.Call.TheVariants.{Relax, Raise, Certify, 
 use Rattle.replay.specs.declared.types.Answer.{Answer as Told}
 use Rattle.replay.specs.declared.types.Answer.TheVariants.{Relaxed, Raised, Certified, Tightened, Pinned, Released, Bracket as Asked, OpenCount as Counted, Finished as SaidFinished}
 use Rattle.replay.specs.declared.types.Event.{Event}
-use Rattle.replay.proofs.Leading.{ap2, ap3, ap4, standing_by, pinning_by, held_is, equations_are, standing_is, pinned_is, pinning_is, becomes, leads_on}
+use Rattle.replay.proofs.Leading.{ap2, ap3, ap4, standing_by, pinning_by, held_is, equations_are, standing_is, pinned_is, pinning_is, unchanged, becomes, leads_on}
 use Rattle.replay.proofs.Leaving.{certify-stands, tighten-stands, pin_left, release_left, ask_is, finished_is}
 
 -- a call that comes back as it was passed
 handed-back : (c : Call) (a : Told) → answer_kind a ≡ call_kind c → Handed c (record { call = c; answer = a })
 handed-back c a e = record { kind = refl; answered = e; cell = refl; number = refl; walks = refl; temperatures = λ d. refl; majorant = λ d. refl }
-
-pub left_alone : {G : Type 0} {s : Study G} → Same s s
-left_alone = record { layer = refl; tolerance = refl; state = refl; count = refl }
 
 -- the equations of a study, and its tolerance
 abbrev laid : {G : Type 0} → Plan → Study G → Plan
@@ -64,67 +60,6 @@ module _ {G : Type 0} {ground : Plan} {s s' : Study G} {bs cs : List BracketRow}
       handed = handed;
       does = λ start h led. let y = says start h led in (y.0, leads_on s s' ground start (new ground c e start h ∷ h) cs x so y.1 y.2);
     }
-
-    -- an event that says nothing new of the study
-    same :
-        Handed c e → Same s s' → cs ≡ bs →
-        ((start : List BracketRow) (h : History) → Led ground s start h bs →
-        Does ground (wide s) start (new ground c e start h) h
-        × (pinning_by ground (wide s) start h ≡ pinning_by ground (wide s) start (new ground c e start h ∷ h))
-        × (grid_by start h ≡ grid_by start (new ground c e start h ∷ h))) →
-        Made ground s bs c e s' cs
-    same handed so grid says =
-        made (pinning_of s) handed (becomes s s' (standing_of s) (record { layer = so.layer; tolerance = so.tolerance; stands = same_stands so }))
-        (λ start h led. let y = says start h led in (y.0, pinning_is led ∙ y.1, grid ∙ led.grid ∙ y.2))
-
-  pub relax-made :
-      {v v' : Vec Temperature Global} {us : List Temperature} {k n k' n' : ℤ} {r : Result (ℕ × ℕ) Refusal} → us ≡ vec_items v → k' ≡ k → n' ≡ n →
-      answer_of r ≡ relax_answer (laid ground s) us k' n' → vec_items v' ≡ relax_grid (laid ground s) us k' n' → Same s s' → cs ≡ bs →
-      Made ground s bs (Relax v k n) (record { call = Relax v' k' n'; answer = Relaxed r }) s' cs
-  relax-made {v = v} {v' = v'} {k = k} {n = n} {k' = k'} {n' = n'} {r = r} ev ek en told left so grid =
-      same (Relax v k n) (record { call = Relax v' k' n'; answer = Relaxed r })
-      (record { kind = refl; answered = refl; cell = refl; number = ek; walks = en; temperatures = λ d. absurd (d refl); majorant = λ d. refl }) so grid
-      (λ start h led.
-      let q = equations_are led in
-      ((told ∙ ap4 relax_answer q ev ek en, left ∙ ap4 relax_grid q ev ek en), refl, refl))
-
-  pub raise-made :
-      {v v' : Vec Majorant Global} {ws : List Majorant} {g n g' n' : ℤ} {r : Result Report Refusal} → ws ≡ vec_items v → g' ≡ g → n' ≡ n →
-      answer_of r ≡ raise_answer (laid ground s) ws g' n' → vec_items v' ≡ raise_grid (laid ground s) ws g' n' → Same s s' → cs ≡ bs →
-      Made ground s bs (Raise v g n) (record { call = Raise v' g' n'; answer = Raised r }) s' cs
-  raise-made {v = v} {v' = v'} {g = g} {n = n} {g' = g'} {n' = n'} {r = r} ev eg en told left so grid =
-      same (Raise v g n) (record { call = Raise v' g' n'; answer = Raised r })
-      (record { kind = refl; answered = refl; cell = refl; number = eg; walks = en; temperatures = λ d. refl; majorant = λ d. absurd (d refl) }) so grid
-      (λ start h led.
-      let q = equations_are led in
-      ((told ∙ ap4 raise_answer q ev eg en, left ∙ ap4 raise_grid q ev eg en), refl, refl))
-
-  pub ask-made :
-      {i : ℕ} {r : Result Bracket Refusal} →
-      MatchResult r (λ b. (ask_check (laid ground s) s.state (length bs) i ≡ clear) × (plain b ≡ brackets bs i)) (λ e. ask_check (laid ground s) s.state (length bs) i ≡ refuse (fault_of e)) →
-      Same s s' → cs ≡ bs → Made ground s bs (Ask i) (record { call = Ask i; answer = Asked r }) s' cs
-  ask-made {i = i} {r = r} told so grid =
-      same (Ask i) (record { call = Ask i; answer = Asked r })
-      (handed-back (Ask i) (Asked r) refl) so grid
-      (λ start h led.
-      let asking : Plan → State → List BracketRow → Answer BracketRow = λ p k x. answer (ask_check p k (length x) i) (brackets x i) in
-      let answered = ask_is r (ask_check (laid ground s) s.state (length bs) i) (brackets bs i) told in
-      (answered ∙ ap3 asking (equations_are led) led.state led.grid, refl, refl))
-
-  pub count-made :
-      {n : ℕ} → n ≡ s.«open» → Same s s' → cs ≡ bs → Made ground s bs OpenCount (record { call = OpenCount; answer = Counted n }) s' cs
-  count-made {n = n} told so grid =
-      same OpenCount (record { call = OpenCount; answer = Counted n })
-      (handed-back OpenCount (Counted n) refl) so grid
-      (λ start h led. (told ∙ led.opened, refl, refl))
-
-  pub finished-made :
-      {b : Bool} → b ≡ is_finished (standing_of s) → Same s s' → cs ≡ bs → Made ground s bs Finished (record { call = Finished; answer = SaidFinished b }) s' cs
-  finished-made {b = b} told so grid =
-      same Finished (record { call = Finished; answer = SaidFinished b })
-      (handed-back Finished (SaidFinished b) refl) so grid
-      (λ start h led.
-      (told ∙ ap is_finished (standing_is led) ∙ finished_is (proved_by h) (open_by ground (wide s) start h), refl, refl))
 
   pub certify-made :
       {v : Vec Temperature Global} {w : Vec Majorant Global} {us : List Temperature} {ws : List Majorant} {r : Result Certificate Refusal} → us ≡ vec_items v → ws ≡ vec_items w →
@@ -173,11 +108,13 @@ module _ {G : Type 0} {ground : Plan} {s s' : Study G} {bs cs : List BracketRow}
       ∙ tighten-stands p (wide s) now (tighten_run p (nat_abs n) now).grid (proved_by h) (length_check p (length now)) (numbers 1 (walks n ∷ [])) in
       ((told ∙ ap4 tighten_answer q led.state led.grid en, refl), pinned_is led stood, left ∙ ap4 tighten_grid q led.state led.grid en))
 
+-- calls that leave the brackets as they were
+module _ {G : Type 0} {ground : Plan} {s s' : Study G} {bs : List BracketRow} where
   pub pin-made :
       {i : ℕ} {t t' : ℤ} {r : Result (Unit {0}) Refusal} → t' ≡ t → answer_of r ≡ answer (pin_check ground s.layer.pins.places i t') tt →
-      Repinned s s' (pin_leaves ground (pinning_of s) i t') → cs ≡ bs →
-      Made ground s bs (Pin i t) (record { call = Pin i t'; answer = Pinned r }) s' cs
-  pin-made {i = i} {t = t} {t' = t'} {r = r} et told so grid =
+      Repinned s s' (pin_leaves ground (pinning_of s) i t') →
+      Made ground s bs (Pin i t) (record { call = Pin i t'; answer = Pinned r }) s' bs
+  pin-made {i = i} {t = t} {t' = t'} {r = r} et told so =
       made (Pin i t) (record { call = Pin i t'; answer = Pinned r }) (pin_leaves ground (pinning_of s) i t')
       (record { kind = refl; answered = refl; cell = refl; number = et; walks = refl; temperatures = λ d. refl; majorant = λ d. refl }) so
       (λ start h led.
@@ -187,14 +124,14 @@ module _ {G : Type 0} {ground : Plan} {s s' : Study G} {bs cs : List BracketRow}
         ap2 (λ x z. pin_leaves ground x i z) (pinning_is led) et
             ∙ pin_left ground (wide s) start h i t k
             ∙ ap (λ a. pinning_by ground (wide s) start (pinned i t a ∷ h)) (sym told'),
-        grid ∙ led.grid,
+        led.grid,
       ))
 
   pub release-made :
       {i : ℕ} {r : Result (Unit {0}) Refusal} → answer_of r ≡ answer (release_check ground s.layer.pins.places i) tt →
-      Repinned s s' (release_leaves ground (pinning_of s) i) → cs ≡ bs →
-      Made ground s bs (Release i) (record { call = Release i; answer = Released r }) s' cs
-  release-made {i = i} {r = r} told so grid =
+      Repinned s s' (release_leaves ground (pinning_of s) i) →
+      Made ground s bs (Release i) (record { call = Release i; answer = Released r }) s' bs
+  release-made {i = i} {r = r} told so =
       made (Release i) (record { call = Release i; answer = Released r }) (release_leaves ground (pinning_of s) i)
       (handed-back (Release i) (Released r) refl) so
       (λ start h led.
@@ -204,5 +141,68 @@ module _ {G : Type 0} {ground : Plan} {s s' : Study G} {bs cs : List BracketRow}
         ap (λ x. release_leaves ground x i) (pinning_is led)
             ∙ release_left ground (wide s) start h i k
             ∙ ap (λ a. pinning_by ground (wide s) start (released i a ∷ h)) (sym told'),
-        grid ∙ led.grid,
+        led.grid,
       ))
+
+-- calls that leave the study and its brackets as they were
+module _ {G : Type 0} {ground : Plan} {s : Study G} {bs : List BracketRow} where
+  -- an event that says nothing new of the study
+  same :
+      (c : Call) (e : Event) → Handed c e →
+      ((start : List BracketRow) (h : History) → Led ground s start h bs →
+      Does ground (wide s) start (new ground c e start h) h
+      × (pinning_by ground (wide s) start h ≡ pinning_by ground (wide s) start (new ground c e start h ∷ h))
+      × (grid_by start h ≡ grid_by start (new ground c e start h ∷ h))) →
+      Made ground s bs c e s bs
+  same c e handed says =
+      made c e (pinning_of s) handed (unchanged s)
+      (λ start h led. let y = says start h led in (y.0, pinning_is led ∙ y.1, led.grid ∙ y.2))
+
+  pub relax-made :
+      {v v' : Vec Temperature Global} {us : List Temperature} {k n k' n' : ℤ} {r : Result (ℕ × ℕ) Refusal} → us ≡ vec_items v → k' ≡ k → n' ≡ n →
+      answer_of r ≡ relax_answer (laid ground s) us k' n' → vec_items v' ≡ relax_grid (laid ground s) us k' n' →
+      Made ground s bs (Relax v k n) (record { call = Relax v' k' n'; answer = Relaxed r }) s bs
+  relax-made {v = v} {v' = v'} {k = k} {n = n} {k' = k'} {n' = n'} {r = r} ev ek en told left =
+      same (Relax v k n) (record { call = Relax v' k' n'; answer = Relaxed r })
+      (record { kind = refl; answered = refl; cell = refl; number = ek; walks = en; temperatures = λ d. absurd (d refl); majorant = λ d. refl })
+      (λ start h led.
+      let q = equations_are led in
+      ((told ∙ ap4 relax_answer q ev ek en, left ∙ ap4 relax_grid q ev ek en), refl, refl))
+
+  pub raise-made :
+      {v v' : Vec Majorant Global} {ws : List Majorant} {g n g' n' : ℤ} {r : Result Report Refusal} → ws ≡ vec_items v → g' ≡ g → n' ≡ n →
+      answer_of r ≡ raise_answer (laid ground s) ws g' n' → vec_items v' ≡ raise_grid (laid ground s) ws g' n' →
+      Made ground s bs (Raise v g n) (record { call = Raise v' g' n'; answer = Raised r }) s bs
+  raise-made {v = v} {v' = v'} {g = g} {n = n} {g' = g'} {n' = n'} {r = r} ev eg en told left =
+      same (Raise v g n) (record { call = Raise v' g' n'; answer = Raised r })
+      (record { kind = refl; answered = refl; cell = refl; number = eg; walks = en; temperatures = λ d. refl; majorant = λ d. absurd (d refl) })
+      (λ start h led.
+      let q = equations_are led in
+      ((told ∙ ap4 raise_answer q ev eg en, left ∙ ap4 raise_grid q ev eg en), refl, refl))
+
+  pub ask-made :
+      {i : ℕ} {r : Result Bracket Refusal} →
+      Checked r (ask_check (laid ground s) s.state (length bs) i) (λ b. plain b ≡ brackets bs i) →
+      Made ground s bs (Ask i) (record { call = Ask i; answer = Asked r }) s bs
+  ask-made {i = i} {r = r} told =
+      same (Ask i) (record { call = Ask i; answer = Asked r })
+      (handed-back (Ask i) (Asked r) refl)
+      (λ start h led.
+      let asking : Plan → State → List BracketRow → Answer BracketRow = λ p k x. answer (ask_check p k (length x) i) (brackets x i) in
+      let answered = ask_is r (ask_check (laid ground s) s.state (length bs) i) (brackets bs i) told in
+      (answered ∙ ap3 asking (equations_are led) led.state led.grid, refl, refl))
+
+  pub count-made :
+      {n : ℕ} → n ≡ s.«open» → Made ground s bs OpenCount (record { call = OpenCount; answer = Counted n }) s bs
+  count-made {n = n} told =
+      same OpenCount (record { call = OpenCount; answer = Counted n })
+      (handed-back OpenCount (Counted n) refl)
+      (λ start h led. (told ∙ led.opened, refl, refl))
+
+  pub finished-made :
+      {b : Bool} → b ≡ is_finished (standing_of s) → Made ground s bs Finished (record { call = Finished; answer = SaidFinished b }) s bs
+  finished-made {b = b} told =
+      same Finished (record { call = Finished; answer = SaidFinished b })
+      (handed-back Finished (SaidFinished b) refl)
+      (λ start h led.
+      (told ∙ ap is_finished (standing_is led) ∙ finished_is (proved_by h) (open_by ground (wide s) start h), refl, refl))

@@ -8,12 +8,12 @@ use section::rows::{BracketRow, Majorant, Temperature};
 use study::types::Study;
 
 fn relaxed<G: Ground>(
-    study: &mut Study<G>,
+    study: &Study<G>,
     mut temperatures: Vec<Temperature>,
     factor: i64,
     walks: i64,
 ) -> Event
-    ensures { (bs : List BracketRow) → Made (G.plan study.old.layer.below) study.old bs (Call.Relax temperatures factor walks) result study.new bs }
+    ensures { (bs : List BracketRow) → Made (G.plan study.now.layer.below) study.now bs (Call.Relax temperatures factor walks) result study.now bs }
 {
     let answer = Answer::Relaxed(study.relax(&mut temperatures, factor, walks));
     Event {
@@ -27,12 +27,12 @@ fn relaxed<G: Ground>(
 }
 
 fn raised<G: Ground>(
-    study: &mut Study<G>,
+    study: &Study<G>,
     mut majorant: Vec<Majorant>,
     margin: i64,
     walks: i64,
 ) -> Event
-    ensures { (bs : List BracketRow) → Made (G.plan study.old.layer.below) study.old bs (Call.Raise majorant margin walks) result study.new bs }
+    ensures { (bs : List BracketRow) → Made (G.plan study.now.layer.below) study.now bs (Call.Raise majorant margin walks) result study.now bs }
 {
     let answer = Answer::Raised(study.raise(&mut majorant, margin, walks));
     Event {

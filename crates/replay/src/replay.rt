@@ -1,7 +1,6 @@
 ghost use Rattle.std.specs.Prelude.{◌≡◌, [], MatchResult};
 ghost use Rattle.section.specs.Plan.{free_count};
-ghost use Rattle.layers.specs.Layers.{pin_plan};
-ghost use Rattle.study.specs.Studies.{Fresh, Same};
+ghost use Rattle.study.specs.Studies.{equations_of, Fresh};
 ghost use Rattle.replay.specs.Replays.{Led, Replayed};
 
 use crate::make::make;
@@ -20,7 +19,7 @@ pub fn replay<G: Ground>(
     brackets: &mut [BracketRow],
     calls: Vec<Call>,
 ) -> Result<Vec<Event>, AllocFailed<Vec<Call>>>
-    ensures { MatchResult result (λ events. Replayed (G.plan study.old.layer.below) study.old brackets.old calls.items events.items study.new brackets.new) (λ e. (e.value ≡ calls) × Same study.old study.new × (brackets.new ≡ brackets.old)) }
+    ensures { MatchResult result (λ events. Replayed (G.plan study.old.layer.below) study.old brackets.old calls.items events.items study.new brackets.new) (λ e. (e.value ≡ calls) × (study.new ≡ study.old) × (brackets.new ≡ brackets.old)) }
 {
     let Ok(mut events) = Vec::with_capacity(heap, calls.len()) else {
         return Err(AllocFailed { value: calls });
@@ -34,6 +33,6 @@ pub fn replay<G: Ground>(
 // A new study has the empty history, whatever its bracket grid holds.
 fn has_no_history<G: Ground>(study: &Study<G>, brackets: &[BracketRow])
     requires fresh { Fresh study.now study.now.layer.below study.now.tolerance }
-    requires count { study.now.«open» ≡ free_count (pin_plan study.now.layer.pins.places (G.plan study.now.layer.below)) }
+    requires count { study.now.«open» ≡ free_count (equations_of G.plan study.now) }
     ensures { Led (G.plan study.now.layer.below) study.now brackets.now [] brackets.now }
 {}

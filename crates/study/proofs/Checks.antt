@@ -15,8 +15,6 @@ use Rattle.steps.specs.declared.report.Raised.{Raised}
 use Rattle.certificate.specs.Certifying.{temperature_check, certificate_check, written}
 use Rattle.certificate.specs.declared.basis.Basis.{Basis}
 use Rattle.study.specs.Calls.{length_check, run_check, factor, margin, relax_answer, relax_grid, raise_answer, raise_grid, Standing, standing, proved_check, tighten_check, tighten_answer, tighten_grid, tighten_standing, basis_of, certificate_of, certify_answer, certify_grid, certify_standing, ask_check}
-use Rattle.study.specs.Studies.{standing_of, Same}
-use Rattle.study.specs.declared.types.Study.{Study}
 use Rattle.certificate.specs.Counting.{open_count}
 use Rattle.study.specs.declared.types.Certificate.{Certificate}
 use Rattle.study.specs.declared.types.State.{State}
@@ -90,10 +88,6 @@ module _ (p : Plan) (s : State) (bs : List BracketRow) (n : ℤ) where
       standing s' (open_count p tolerance ran.grid) ≡ tighten_standing p tolerance (standing s before) bs n
   tighten-stands t s' before e q q' = rw (q', e, proved_is s q) refl
 
--- the open cells are counted from the grid as it is left
-pub counted : (p : Plan) (tolerance tolerance' : ℤ) (s : State) (count : ℕ) (bs grid : List BracketRow) → grid ≡ bs → tolerance' ≡ tolerance → count ≡ open_count p tolerance' grid → standing s count ≡ standing s (open_count p tolerance bs)
-counted p t t' s count bs grid g w k = rw (k, w, g) refl
-
 -- what an answer tells of the check behind it
 module _ {X : Type 0} where
   abbrev Refused : Answer X → Type 0
@@ -121,13 +115,13 @@ told_as x n = record { rest = x.0; margin = x.1; «open» = n }
 
 -- what an accepted certificate answers and leaves: the numbers measured, and the open cells of the grid as it is left
 pub accept_is :
-    (p : Plan) (tolerance tolerance' : ℤ) (k : Check) (s : State) (before : Standing) (x : ℕ × ℕ) (r m n : ℕ) (bs left grid : List BracketRow) →
-    accepted (r, m) ≡ answer k x → grid ≡ unless_refused k bs left → tolerance' ≡ tolerance → n ≡ open_count p tolerance' grid →
+    (p : Plan) (tolerance : ℤ) (k : Check) (s : State) (before : Standing) (x : ℕ × ℕ) (r m n : ℕ) (bs left grid : List BracketRow) →
+    accepted (r, m) ≡ answer k x → grid ≡ unless_refused k bs left → n ≡ open_count p tolerance grid →
     (accepted (told_as (r, m) n) ≡ answer k (told_as x (open_count p tolerance left))) × (standing s n ≡ unless_refused k before (standing s (open_count p tolerance left)))
-accept_is p t t' k s before x r m n bs left grid told g w c =
+accept_is p t k s before x r m n bs left grid told g c =
     let q = accepted_is k (r, m) x told in
     let same : grid ≡ left = g ∙ ap (λ j. unless_refused j bs left) q.0 in
-    let count : n ≡ open_count p t left = c ∙ ap (λ u. open_count p u grid) w ∙ ap (open_count p t) same in (
+    let count : n ≡ open_count p t left = c ∙ ap (open_count p t) same in (
       ap (λ y. accepted (told_as y n)) q.1 ∙ ap (λ z. accepted (told_as x z)) count ∙ sym (ap (λ j. answer j (told_as x (open_count p t left))) q.0),
       ap (standing s) count ∙ sym (ap (λ j. unless_refused j before (standing s (open_count p t left))) q.0),
     )
@@ -146,7 +140,3 @@ module _ (p : Plan) (tolerance : ℤ) (s : State) (us : List Temperature) (ws : 
         (s' : State) (before : ℕ) → s' ≡ Proved →
         unless_refused accepting (standing s before) (standing s' (open_count p tolerance (written p b us ws bs))) ≡ certify_standing p tolerance (standing s before) us ws bs
     certify-stands s' before q' = rw (e, f, g, q, q') refl
-
--- a call that leaves the study as it was leaves how its brackets stand
-pub same_stands : {G : Type 0} {before after : Study G} → Same before after → standing_of after ≡ standing_of before
-same_stands same = rw (same.state, same.count) refl

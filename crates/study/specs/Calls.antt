@@ -1,10 +1,8 @@
 -- What the calls of a study answer and leave behind, by the plan of its equations.
-use Rattle.std.specs.Prelude.{ℕ, ◌+◌, ◌-◌, Bool, true, false, not, ◌&&◌, List, [], ◌∷◌, length, ℤ, pos, negsuc, Some, None, Option, ◌==◌, nat_le, unsigned_abs}
+use Rattle.std.specs.Prelude.{ℕ, ◌+◌, ◌-◌, Bool, true, false, not, ◌&&◌, List, [], ◌∷◌, length, ℤ, pos, Some, None, Option, ◌==◌, nat_le, unsigned_abs}
 use Rattle.refusal.specs.Refusals.{Check, clear, refuse, ◌then◌, when, fault, at_first, Answer, answer, unless_refused}
 use Rattle.refusal.specs.declared.types.Level.TheVariants.{Call, Walk}
-use Rattle.section.specs.Limits.{outside, Number, number, numbers}
-use Rattle.section.specs.Reading.{temperatures}
-use Rattle.scan.specs.First.{first}
+use Rattle.section.specs.Limits.{Number, number, numbers}
 use Rattle.section.specs.Plan.{Plan, size, is_free_at, free_count}
 use Rattle.section.specs.declared.rows.BracketRow.{BracketRow}
 use Rattle.section.specs.declared.rows.Temperature.{Temperature}
@@ -14,7 +12,7 @@ use Rattle.steps.specs.Steps.{relax_run, raise_run, counts_of, raised_of}
 use Rattle.steps.specs.Tightening.{tighten_run}
 use Rattle.steps.specs.declared.report.Raised.{Raised}
 use Rattle.measure.specs.Measures.{rest, margin as least_margin}
-use Rattle.certificate.specs.Certifying.{certificate_check, written}
+use Rattle.certificate.specs.Certifying.{temperature_check, certificate_check, written}
 use Rattle.certificate.specs.Counting.{open_count}
 use Rattle.certificate.specs.declared.basis.Basis.{Basis}
 use Rattle.certificate.specs.declared.basis.Basis.TheVariants.{Alone, Joined}
@@ -40,12 +38,9 @@ factor k = number k (pos 1) (pos 199)
 abbrev pub margin : ℤ → Number
 margin g = number g (pos 1) (pos 10000)
 
-abbrev pub too_hot : Plan → List Temperature → ℕ → Bool
-too_hot p us i = is_free_at p i && outside (negsuc 999999999) (pos 1000000000) (temperatures us i)
-
 -- Relaxing by k hundredths, at most n walks.
 abbrev pub relax_check : Plan → List Temperature → ℤ → ℤ → Check
-relax_check p us k n = run_check p (length us) (factor k) n then at_first (first (too_hot p us) (size p)) (fault Call 10)
+relax_check p us k n = run_check p (length us) (factor k) n then temperature_check p us
 
 abbrev pub relax_answer : Plan → List Temperature → ℤ → ℤ → Answer (ℕ × ℕ)
 relax_answer p us k n = answer (relax_check p us k n) (counts_of (relax_run p k (unsigned_abs n) us))

@@ -1,32 +1,27 @@
 -- How a study stands, before and after a call.
 use Rattle.std.specs.Prelude.{◌≡◌, ℕ, ℤ, pos, ◌≤ℤ◌, None}
-use Rattle.refusal.specs.Refusals.{clear}
 use Rattle.section.specs.Limits.{Number}
 use Rattle.section.specs.Plan.{Plan, size}
-use Rattle.section.specs.declared.types.Shape.{Shape}
 use Rattle.section.specs.declared.types.Tolerance.{Tolerance}
-use Rattle.layers.specs.Layers.{pinned_at}
+use Rattle.layers.specs.Layers.{pin_plan, pinned_at}
 use Rattle.layers.specs.Tables.{lookup, used}
-use Rattle.study.specs.Calls.{Standing, standing, Pinning, pinning, run_check}
+use Rattle.study.specs.Calls.{Standing, standing, Pinning, pinning}
 use Rattle.study.specs.declared.types.State.TheVariants.{Unproved}
 use Rattle.study.specs.declared.types.Study.{Study}
+
+-- the plan of its equations, by the meaning of its ground
+abbrev pub equations_of : {G : Type 0} → (G → Plan) → Study G → Plan
+equations_of plan s = pin_plan s.layer.pins.places (plan s.layer.below)
 
 -- how its brackets stand
 abbrev pub standing_of : {G : Type 0} → Study G → Standing
 standing_of s = standing s.state s.«open»
 
--- a call that leaves pins and tolerance as they were; the room for its equations says nothing
+-- a call that leaves pins and tolerance as they were
 pub record Becomes {G : Type 0} (before after : Study G) (k : Standing) : Type 0 where
   pub layer : after.layer ≡ before.layer
   pub tolerance : after.tolerance ≡ before.tolerance
   pub stands : standing_of after ≡ k
-
--- a call that leaves the study as it was; the room for its equations says nothing
-pub record Same {G : Type 0} (before after : Study G) : Type 0 where
-  pub layer : after.layer ≡ before.layer
-  pub tolerance : after.tolerance ≡ before.tolerance
-  pub state : after.state ≡ before.state
-  pub count : after.«open» ≡ before.«open»
 
 -- how its pins and brackets stand
 abbrev pub pinning_of : {G : Type 0} → Study G → Pinning
@@ -48,17 +43,8 @@ pub record Fresh {G : Type 0} (s : Study G) (base : G) (tolerance : Tolerance) :
   pub tolerance_is : s.tolerance ≡ tolerance
   pub state : s.state ≡ Unproved
 
--- the shape of a plan, with a grid that has an entry for each of its cells
-pub record Fits (s : Shape) (p : Plan) (entries : ℕ) : Type 0 where
-  pub wide : s.wide ≡ p.wide
-  pub high : s.high ≡ p.high
-  pub count : entries ≡ size p
-
--- a run that may begin, with the shape of its plan
-pub record Ready (s : Shape) (p : Plan) (entries : ℕ) (x : Number) (n : ℤ) : Type 0 where
-  pub fine : run_check p entries x n ≡ clear
-  pub wide : s.wide ≡ p.wide
-  pub high : s.high ≡ p.high
+-- what a run that may begin goes by: a grid for its plan, and numbers within their limits
+pub record Ready (p : Plan) (entries : ℕ) (x : Number) (n : ℤ) : Type 0 where
   pub count : entries ≡ size p
   pub least : x.least ≤ℤ x.value
   pub most : x.value ≤ℤ x.most

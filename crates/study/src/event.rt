@@ -1,5 +1,5 @@
-ghost use Rattle.std.specs.Prelude.{◌≡◌, MatchResult};
-ghost use Rattle.refusal.specs.Refusals.{clear, refuse, fault_of};
+ghost use Rattle.std.specs.Prelude.{◌≡◌};
+ghost use Rattle.refusal.specs.Refusals.{Checked};
 ghost use Rattle.study.specs.Calls.{basis_of};
 ghost use Rattle.study.specs.Events.{event_check, after_event};
 
@@ -18,7 +18,7 @@ pub(crate) enum Event {
 
 // The state that an event leaves, and what the brackets in the grid are worth to it.
 pub(crate) fn meets(state: State, event: Event) -> Result<(State, Basis), Refusal>
-    ensures { MatchResult result (λ x. (event_check state event ≡ clear) × (x.0 ≡ after_event event) × (x.1 ≡ basis_of state)) (λ e. event_check state event ≡ refuse (fault_of e)) }
+    ensures { Checked result (event_check state event) (λ x. (x.0 ≡ after_event event) × (x.1 ≡ basis_of state)) }
 {
     match (state, event) {
         (State::Unproved, Event::Certificate) => Ok((State::Proved, Basis::Alone)),

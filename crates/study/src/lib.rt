@@ -1,7 +1,6 @@
 // A study: one ground seen through a pin layer, with what is proved of it.
 #![tactic(auto)]
 
-mod check;
 mod event;
 pub mod proving;
 mod raise;

@@ -1,17 +1,17 @@
 // What is proved of a study, and the pins that undo it.
-ghost use Rattle.std.specs.Prelude.{◌≡◌, length, MatchResult};
-ghost use Rattle.section.specs.Plan.{free_count};
-ghost use Rattle.refusal.specs.Refusals.{answer_of, answer, at_first, unless_refused, clear, refuse, fault, fault_of};
+ghost use Rattle.std.specs.Prelude.{◌≡◌, length};
+ghost use Rattle.section.specs.Plan.{free_count, size};
+ghost use Rattle.refusal.specs.Refusals.{answer_of, answer, at_first, unless_refused, fault, Checked};
 ghost use Rattle.refusal.specs.declared.types.Level.TheVariants.{Walk};
 ghost use Rattle.steps.specs.Steps.{counts_of};
 ghost use Rattle.steps.specs.Tightening.{tighten_run};
 ghost use Rattle.certificate.specs.Certifying.{certificate_check, written};
 ghost use Rattle.certificate.specs.Counting.{open_count};
-ghost use Rattle.layers.specs.Layers.{pin_plan, pin_check, release_check};
+ghost use Rattle.layers.specs.Layers.{pin_check, release_check};
 ghost use Rattle.section.specs.Reading.{plain, brackets as brackets_of};
 ghost use Rattle.study.specs.Calls.{standing, length_check, certificate_of, certify_answer, certify_grid, certify_standing, tighten_answer, tighten_grid, tighten_standing, ask_check, pin_leaves, release_leaves, is_finished};
 ghost use Rattle.study.specs.Events.{walk_answer_of};
-ghost use Rattle.study.specs.Studies.{standing_of, pinning_of, Repinned, Becomes, Fits};
+ghost use Rattle.study.specs.Studies.{equations_of, standing_of, pinning_of, Repinned, Becomes};
 
 use crate::event::{Event, meets};
 use crate::tighten::tighten_laid;
@@ -23,41 +23,38 @@ use ground::ground::{Ground, free_cells};
 use refusal::types::{Refusal, WalkFault};
 use section::limits::within;
 use section::rows::{BracketRow, Majorant, Temperature};
-use section::types::{Bracket, Shape};
+use section::types::Bracket;
 
 impl<G: Ground> Study<G> {
     // A grid must have an entry for each cell.
-    pub(crate) fn sized(&self, length: usize) -> Result<Shape, Refusal>
-        ensures { MatchResult result (λ s. (length_check (pin_plan self.now.layer.pins.places (G.plan self.now.layer.below)) length ≡ clear) × Fits s (pin_plan self.now.layer.pins.places (G.plan self.now.layer.below)) length) (λ e. length_check (pin_plan self.now.layer.pins.places (G.plan self.now.layer.below)) length ≡ refuse (fault_of e)) }
+    pub(crate) fn sized(&self, length: usize) -> Result<(), Refusal>
+        ensures { Checked result (length_check (equations_of G.plan self.now) length) (λ _. length ≡ size (equations_of G.plan self.now)) }
     {
-        let shape = self.shape();
-        if length != shape.cells() {
+        if length != self.shape().cells() {
             return Err(Refusal::GridLength(length));
         }
-        Ok(shape)
+        Ok(())
     }
 
     // Certifies grids of the right length, and counts the open cells anew.
     fn accept(
         &mut self,
-        shape: Shape,
         temperatures: &[Temperature],
         majorant: &[Majorant],
         brackets: &mut [BracketRow],
         basis: Basis,
         state: State,
     ) -> Result<Certificate, Refusal>
-        requires temperatures { Fits shape (pin_plan self.old.layer.pins.places (G.plan self.old.layer.below)) (length temperatures.now) }
-        requires majorant { Fits shape (pin_plan self.old.layer.pins.places (G.plan self.old.layer.below)) (length majorant.now) }
-        requires brackets { Fits shape (pin_plan self.old.layer.pins.places (G.plan self.old.layer.below)) (length brackets.old) }
-        ensures answer { answer_of result ≡ answer (certificate_check (pin_plan self.old.layer.pins.places (G.plan self.old.layer.below)) basis temperatures.now majorant.now brackets.old) (certificate_of (pin_plan self.old.layer.pins.places (G.plan self.old.layer.below)) self.old.tolerance.width basis temperatures.now majorant.now brackets.old) }
-        ensures grid { brackets.new ≡ unless_refused (certificate_check (pin_plan self.old.layer.pins.places (G.plan self.old.layer.below)) basis temperatures.now majorant.now brackets.old) brackets.old (written (pin_plan self.old.layer.pins.places (G.plan self.old.layer.below)) basis temperatures.now majorant.now brackets.old) }
-        ensures study { Becomes self.old self.new (unless_refused (certificate_check (pin_plan self.old.layer.pins.places (G.plan self.old.layer.below)) basis temperatures.now majorant.now brackets.old) (standing_of self.old) (standing state (open_count (pin_plan self.old.layer.pins.places (G.plan self.old.layer.below)) self.old.tolerance.width (written (pin_plan self.old.layer.pins.places (G.plan self.old.layer.below)) basis temperatures.now majorant.now brackets.old)))) }
+        requires temperatures { length temperatures.now ≡ size (equations_of G.plan self.old) }
+        requires majorant { length majorant.now ≡ size (equations_of G.plan self.old) }
+        requires brackets { length brackets.old ≡ size (equations_of G.plan self.old) }
+        ensures answer { answer_of result ≡ answer (certificate_check (equations_of G.plan self.old) basis temperatures.now majorant.now brackets.old) (certificate_of (equations_of G.plan self.old) self.old.tolerance.width basis temperatures.now majorant.now brackets.old) }
+        ensures grid { brackets.new ≡ unless_refused (certificate_check (equations_of G.plan self.old) basis temperatures.now majorant.now brackets.old) brackets.old (written (equations_of G.plan self.old) basis temperatures.now majorant.now brackets.old) }
+        ensures study { Becomes self.old self.new (unless_refused (certificate_check (equations_of G.plan self.old) basis temperatures.now majorant.now brackets.old) (standing_of self.old) (standing state (open_count (equations_of G.plan self.old) self.old.tolerance.width (written (equations_of G.plan self.old) basis temperatures.now majorant.now brackets.old)))) }
     {
-        self.lay_out();
-        let (rest, margin) = certify(shape, &self.rows, temperatures, majorant, brackets, basis)?;
+        let (rest, margin) = certify(&self.layer, temperatures, majorant, brackets, basis)?;
         self.state = state;
-        self.open = count_open(&self.rows, brackets, self.tolerance);
+        self.open = count_open(&self.layer, brackets, self.tolerance);
         Ok(Certificate {
             rest,
             margin,
@@ -73,34 +70,32 @@ impl<G: Ground> Study<G> {
         majorant: &[Majorant],
         brackets: &mut [BracketRow],
     ) -> Result<Certificate, Refusal>
-        ensures answer { answer_of result ≡ certify_answer (pin_plan self.old.layer.pins.places (G.plan self.old.layer.below)) self.old.tolerance.width self.old.state temperatures.now majorant.now brackets.old }
-        ensures grid { brackets.new ≡ certify_grid (pin_plan self.old.layer.pins.places (G.plan self.old.layer.below)) self.old.state temperatures.now majorant.now brackets.old }
-        ensures study { Becomes self.old self.new (certify_standing (pin_plan self.old.layer.pins.places (G.plan self.old.layer.below)) self.old.tolerance.width (standing_of self.old) temperatures.now majorant.now brackets.old) }
+        ensures answer { answer_of result ≡ certify_answer (equations_of G.plan self.old) self.old.tolerance.width self.old.state temperatures.now majorant.now brackets.old }
+        ensures grid { brackets.new ≡ certify_grid (equations_of G.plan self.old) self.old.state temperatures.now majorant.now brackets.old }
+        ensures study { Becomes self.old self.new (certify_standing (equations_of G.plan self.old) self.old.tolerance.width (standing_of self.old) temperatures.now majorant.now brackets.old) }
     {
         self.sized(temperatures.len())?;
         self.sized(majorant.len())?;
-        let shape = self.sized(brackets.len())?;
+        self.sized(brackets.len())?;
         let (state, basis) = meets(self.state, Event::Certificate)?;
-        self.accept(shape, temperatures, majorant, brackets, basis, state)
+        self.accept(temperatures, majorant, brackets, basis, state)
     }
 
     // Tightens, stopped by a crossing or not, and counts the open cells anew.
     fn narrow(
         &mut self,
-        shape: Shape,
         brackets: &mut [BracketRow],
         most: usize,
         state: State,
     ) -> Result<(usize, usize), WalkFault>
-        requires { Fits shape (pin_plan self.old.layer.pins.places (G.plan self.old.layer.below)) (length brackets.old) }
-        ensures answer { walk_answer_of result ≡ answer (at_first (tighten_run (pin_plan self.old.layer.pins.places (G.plan self.old.layer.below)) most brackets.old).stopped (fault Walk 9)) (counts_of (tighten_run (pin_plan self.old.layer.pins.places (G.plan self.old.layer.below)) most brackets.old)) }
-        ensures grid { brackets.new ≡ (tighten_run (pin_plan self.old.layer.pins.places (G.plan self.old.layer.below)) most brackets.old).grid }
-        ensures study { Becomes self.old self.new (standing state (open_count (pin_plan self.old.layer.pins.places (G.plan self.old.layer.below)) self.old.tolerance.width (tighten_run (pin_plan self.old.layer.pins.places (G.plan self.old.layer.below)) most brackets.old).grid)) }
+        requires { length brackets.old ≡ size (equations_of G.plan self.old) }
+        ensures answer { walk_answer_of result ≡ answer (at_first (tighten_run (equations_of G.plan self.old) most brackets.old).stopped (fault Walk 9)) (counts_of (tighten_run (equations_of G.plan self.old) most brackets.old)) }
+        ensures grid { brackets.new ≡ (tighten_run (equations_of G.plan self.old) most brackets.old).grid }
+        ensures study { Becomes self.old self.new (standing state (open_count (equations_of G.plan self.old) self.old.tolerance.width (tighten_run (equations_of G.plan self.old) most brackets.old).grid)) }
     {
-        self.lay_out();
-        let ran = tighten_laid(shape, &self.rows, brackets, most);
+        let ran = tighten_laid(&self.layer, brackets, most);
         self.state = state;
-        self.open = count_open(&self.rows, brackets, self.tolerance);
+        self.open = count_open(&self.layer, brackets, self.tolerance);
         ran
     }
 
@@ -111,20 +106,20 @@ impl<G: Ground> Study<G> {
         brackets: &mut [BracketRow],
         walks: i64,
     ) -> Result<(usize, usize), Refusal>
-        ensures answer { answer_of result ≡ tighten_answer (pin_plan self.old.layer.pins.places (G.plan self.old.layer.below)) self.old.state brackets.old walks }
-        ensures grid { brackets.new ≡ tighten_grid (pin_plan self.old.layer.pins.places (G.plan self.old.layer.below)) self.old.state brackets.old walks }
-        ensures study { Becomes self.old self.new (tighten_standing (pin_plan self.old.layer.pins.places (G.plan self.old.layer.below)) self.old.tolerance.width (standing_of self.old) brackets.old walks) }
+        ensures answer { answer_of result ≡ tighten_answer (equations_of G.plan self.old) self.old.state brackets.old walks }
+        ensures grid { brackets.new ≡ tighten_grid (equations_of G.plan self.old) self.old.state brackets.old walks }
+        ensures study { Becomes self.old self.new (tighten_standing (equations_of G.plan self.old) self.old.tolerance.width (standing_of self.old) brackets.old walks) }
     {
-        let shape = self.sized(brackets.len())?;
+        self.sized(brackets.len())?;
         let (state, _) = meets(self.state, Event::Tightening)?;
         within(1, walks, 1, 1_000_000)?;
-        let counts = self.narrow(shape, brackets, walks as usize, state)?;
+        let counts = self.narrow(brackets, walks as usize, state)?;
         Ok(counts)
     }
 
     // The bracket of a free cell, while brackets are proved.
     pub fn bracket(&self, brackets: &[BracketRow], cell: usize) -> Result<Bracket, Refusal>
-        ensures { MatchResult result (λ b. (ask_check (pin_plan self.now.layer.pins.places (G.plan self.now.layer.below)) self.now.state (length brackets.now) cell ≡ clear) × (plain b ≡ brackets_of brackets.now cell)) (λ e. ask_check (pin_plan self.now.layer.pins.places (G.plan self.now.layer.below)) self.now.state (length brackets.now) cell ≡ refuse (fault_of e)) }
+        ensures { Checked result (ask_check (equations_of G.plan self.now) self.now.state (length brackets.now) cell) (λ b. plain b ≡ brackets_of brackets.now cell) }
     {
         self.sized(brackets.len())?;
         match self.state {
@@ -146,7 +141,7 @@ impl<G: Ground> Study<G> {
         ensures study { Repinned self.old self.new (pin_leaves (G.plan self.old.layer.below) (pinning_of self.old) cell temperature) }
     {
         let (state, _) = meets(self.state, Event::Pin)?;
-        self.layer.pin(cell, temperature)?;
+        self.layer.update(|layer| layer.pin(cell, temperature))?;
         self.begin(state);
         Ok(())
     }
@@ -157,7 +152,7 @@ impl<G: Ground> Study<G> {
         ensures study { Repinned self.old self.new (release_leaves (G.plan self.old.layer.below) (pinning_of self.old) cell) }
     {
         let (state, _) = meets(self.state, Event::Release)?;
-        self.layer.release(cell)?;
+        self.layer.update(|layer| layer.release(cell))?;
         self.begin(state);
         Ok(())
     }
@@ -166,7 +161,7 @@ impl<G: Ground> Study<G> {
     fn begin(&mut self, state: State)
         ensures layer { self.new.layer ≡ self.old.layer }
         ensures tolerance { self.new.tolerance ≡ self.old.tolerance }
-        ensures stands { standing_of self.new ≡ standing state (free_count (pin_plan self.old.layer.pins.places (G.plan self.old.layer.below))) }
+        ensures stands { standing_of self.new ≡ standing state (free_count (equations_of G.plan self.old)) }
     {
         self.state = state;
         self.open = free_cells(&self.layer);

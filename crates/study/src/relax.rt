@@ -1,37 +1,29 @@
-ghost use Rattle.std.specs.Prelude.{◌≡◌, ◌<◌, length};
-ghost use Rattle.section.specs.Plan.{Plan, size};
-ghost use Rattle.refusal.specs.Refusals.{answer_of, answer, unless_refused, at_first, fault};
-ghost use Rattle.refusal.specs.declared.types.Level.TheVariants.{Call};
-ghost use Rattle.stencil.specs.Stencils.{Stands};
-ghost use Rattle.scan.specs.First.{first};
+ghost use Rattle.std.specs.Prelude.{◌≡◌, length};
+ghost use Rattle.section.specs.Plan.{size};
+ghost use Rattle.refusal.specs.Refusals.{answer_of, answer, unless_refused};
 ghost use Rattle.steps.specs.Steps.{relax_run, counts_of};
-ghost use Rattle.certificate.specs.AtRows.{Laid};
-ghost use Rattle.study.specs.Calls.{too_hot};
+ghost use Rattle.certificate.specs.Certifying.{temperature_check};
 
-use crate::check::Proposed;
+use certificate::propose::temperatures_fair;
+use ground::ground::Ground;
 use refusal::types::Refusal;
-use scan::first_failing;
 use section::rows::Temperature;
-use section::types::Shape;
-use stencil::types::Stencil;
+use stencil::laid::LaidOut;
 use steps::rules::Relax;
 use steps::told::counts_of;
 use walk::run::run;
 
-// Relaxes over equations that are laid out, unless a free cell's temperature is outside its limits.
-pub(crate) fn relax_laid(
-    shape: Shape,
-    rows: &[Option<Stencil>],
+// Relaxes, unless a free cell's temperature is outside its limits.
+pub(crate) fn relax_laid<G: Ground>(
+    laid: &LaidOut<G>,
     grid: &mut [Temperature],
     factor: Relax,
     most: usize,
 ) -> Result<(usize, usize), Refusal>
-    requires { Laid shape rows.now (length grid.old) }
-    ensures answer { (p : Plan) → Stands p rows.now → answer_of result ≡ answer (at_first (first (too_hot p grid.old) (size p)) (fault Call 10)) (counts_of (relax_run p factor.factor most grid.old)) }
-    ensures grid { (p : Plan) → Stands p rows.now → grid.new ≡ unless_refused (at_first (first (too_hot p grid.old) (size p)) (fault Call 10)) grid.old (relax_run p factor.factor most grid.old).grid }
+    requires { length grid.old ≡ size (G.plan laid.now) }
+    ensures answer { answer_of result ≡ answer (temperature_check (G.plan laid.now) grid.old) (counts_of (relax_run (G.plan laid.now) factor.factor most grid.old)) }
+    ensures grid { grid.new ≡ unless_refused (temperature_check (G.plan laid.now) grid.old) grid.old (relax_run (G.plan laid.now) factor.factor most grid.old).grid }
 {
-    if let Some(cell) = first_failing(shape, &Proposed { rows, grid }) {
-        return Err(Refusal::Temperature(cell));
-    }
-    Ok(counts_of(run(&factor, rows, grid, most)))
+    temperatures_fair(laid, grid)?;
+    Ok(counts_of(run(&factor, laid, grid, most)))
 }

@@ -1,8 +1,7 @@
-ghost use Rattle.std.specs.Prelude.{◌≤◌, vec_capacity};
-
+use ground::ground::Ground;
 use layers::layer::PinLayer;
-use section::types::{Record, Tolerance};
-use stencil::types::Stencil;
+use section::types::Tolerance;
+use stencil::laid::LaidOut;
 
 // Whether brackets are proved.
 #[derive(Clone, Copy)]
@@ -20,16 +19,11 @@ pub struct Certificate {
     pub open: usize,
 }
 
-// The ground below its pins is the study's own: nothing here leads to it. `records` and `rows` are
-// room for the equations, which each call that walks lays out anew.
+// The ground below its pins is the study's own: nothing here leads to it.
 #[derive(Drop)]
-pub struct Study<G> {
-    pub(crate) layer: PinLayer<G>,
+pub struct Study<G: Ground> {
+    pub(crate) layer: LaidOut<PinLayer<G>>,
     pub(crate) tolerance: Tolerance,
     pub(crate) state: State,
     pub(crate) open: usize,
-    pub(crate) records: Vec<Record>,
-    pub(crate) rows: Vec<Option<Stencil>>,
-    ghost record_room: { 4096 ≤ vec_capacity records },
-    ghost row_room: { 4096 ≤ vec_capacity rows },
 }

@@ -15,7 +15,7 @@ use study::types::Study;
 
 // A study with all that its calls are passed and checked by.
 #[derive(Drop)]
-struct Bench<G> {
+struct Bench<G: Ground> {
     study: Study<G>,
     brackets: Vec<BracketRow>,
     desk: Desk,

@@ -1,6 +1,6 @@
-use Rattle.std.proofs.Common.{refl, w64, SFits, rules}
+use Rattle.std.proofs.Common.{w64, SFits, rules}
 use Rattle.std.proofs.lemmas.Int.{to_z-of_z}
-use Rattle.replay.proofs.Making.{tighten-made, pin-made, release-made, ask-made, count-made, finished-made, left_alone}
+use Rattle.replay.proofs.Making.{tighten-made, pin-made, release-made, ask-made, count-made, finished-made}
 use Rattle.replay.proofs.make.make.Goals as goal
 
 pub returns-in-Relax : goal.returns-in-Relax
@@ -29,16 +29,16 @@ returns-in-Tighten g c =
 pub returns-in-Pin : goal.returns-in-Pin
 returns-in-Pin g c =
     let t : SFits w64 c.in-Pin.temperature = search rules in
-    rw c.in-Pin.is (pin-made (to_z-of_z w64 c.in-Pin.temperature t) c.pin.ensures.answer c.pin.ensures.study refl)
+    rw c.in-Pin.is (pin-made (to_z-of_z w64 c.in-Pin.temperature t) c.pin.ensures.answer c.pin.ensures.study)
 
 pub returns-in-Release : goal.returns-in-Release
-returns-in-Release g c = rw c.in-Release.is (release-made c.release.ensures.answer c.release.ensures.study refl)
+returns-in-Release g c = rw c.in-Release.is (release-made c.release.ensures.answer c.release.ensures.study)
 
 pub returns-in-Bracket : goal.returns-in-Bracket
-returns-in-Bracket g c = rw c.in-Bracket.is (ask-made c.bracket.ensures left_alone refl)
+returns-in-Bracket g c = rw c.in-Bracket.is (ask-made c.bracket.ensures)
 
 pub returns-in-OpenCount : goal.returns-in-OpenCount
-returns-in-OpenCount g c = rw c.in-OpenCount.is (count-made c.open_count.ensures left_alone refl)
+returns-in-OpenCount g c = rw c.in-OpenCount.is (count-made c.open_count.ensures)
 
 pub returns-in-Finished : goal.returns-in-Finished
-returns-in-Finished g c = rw c.in-Finished.is (finished-made c.finished.ensures left_alone refl)
+returns-in-Finished g c = rw c.in-Finished.is (finished-made c.finished.ensures)

@@ -1,4 +1,4 @@
-use Rattle.std.proofs.Common.{refl, ◌∙◌, w64, SFits, rules}
+use Rattle.std.proofs.Common.{◌∙◌, w64, SFits, rules}
 use Rattle.std.proofs.lemmas.List.{with_items_is}
 use Rattle.std.proofs.lemmas.Int.{to_z-of_z}
 use Rattle.replay.proofs.Making.{raise-made}
@@ -11,4 +11,4 @@ returns g c = λ bs.
     let filled = with_items_is c.args.majorant c.raise.new.grid (c.raise.auto.grid ∙ c.deref_mut.ensures.len) in
     let done = c.raise.ensures in
     raise-made c.deref_mut.ensures.value (to_z-of_z w64 c.args.margin k) (to_z-of_z w64 c.args.walks n)
-    done.answer (filled ∙ done.grid) done.study refl
+    done.answer (filled ∙ done.grid)
