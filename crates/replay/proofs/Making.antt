@@ -10,7 +10,8 @@ use Rattle.section.specs.declared.rows.BracketRow.{BracketRow}
 use Rattle.section.specs.declared.rows.Temperature.{Temperature}
 use Rattle.section.specs.declared.rows.Majorant.{Majorant}
 use Rattle.section.specs.declared.types.Bracket.{Bracket}
-use Rattle.layers.specs.Layers.{pin_plan, pin_check, release_check, pin_checks, release_checks}
+use Rattle.layers.specs.Layers.{holding, pin_checks, release_checks}
+use Rattle.study.specs.Pins.{pins_in, pin_count}
 use Rattle.certificate.specs.Certifying.{written}
 use Rattle.steps.specs.Tightening.{tighten_run}
 use Rattle.steps.specs.declared.report.Raised.{Raised as Report}
@@ -37,7 +38,7 @@ handed-back c a e = record { kind = refl; answered = e; cell = refl; number = re
 
 -- the equations of a study, and its tolerance
 abbrev laid : {G : Type 0} → Plan → Study G → Plan
-laid ground s = pin_plan s.layer.pins.places ground
+laid ground s = holding ground (pins_in s.layer)
 
 abbrev wide : {G : Type 0} → Study G → ℤ
 wide s = s.tolerance.width
@@ -111,7 +112,7 @@ module _ {G : Type 0} {ground : Plan} {s s' : Study G} {bs cs : List BracketRow}
 -- calls that leave the brackets as they were
 module _ {G : Type 0} {ground : Plan} {s s' : Study G} {bs : List BracketRow} where
   pub pin-made :
-      {i : ℕ} {t t' : ℤ} {r : Result (Unit {0}) Refusal} → t' ≡ t → answer_of r ≡ answer (pin_check ground s.layer.pins.places i t') tt →
+      {i : ℕ} {t t' : ℤ} {r : Result (Unit {0}) Refusal} → t' ≡ t → answer_of r ≡ answer (pin_checks ground (pins_in s.layer) (pin_count s.layer) i t') tt →
       Repinned s s' (pin_leaves ground (pinning_of s) i t') →
       Made ground s bs (Pin i t) (record { call = Pin i t'; answer = Pinned r }) s' bs
   pin-made {i = i} {t = t} {t' = t'} {r = r} et told so =
@@ -128,7 +129,7 @@ module _ {G : Type 0} {ground : Plan} {s s' : Study G} {bs : List BracketRow} wh
       ))
 
   pub release-made :
-      {i : ℕ} {r : Result (Unit {0}) Refusal} → answer_of r ≡ answer (release_check ground s.layer.pins.places i) tt →
+      {i : ℕ} {r : Result (Unit {0}) Refusal} → answer_of r ≡ answer (release_checks ground (pins_in s.layer) i) tt →
       Repinned s s' (release_leaves ground (pinning_of s) i) →
       Made ground s bs (Release i) (record { call = Release i; answer = Released r }) s' bs
   release-made {i = i} {r = r} told so =

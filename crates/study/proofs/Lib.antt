@@ -1,3 +1,3 @@
 mod Laying
-pub mod Checks
+mod Checks
 mod Pins

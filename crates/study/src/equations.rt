@@ -1,6 +1,6 @@
 ghost use Rattle.std.specs.Prelude.{◌≤◌, vec_capacity};
 ghost use Rattle.stencil.specs.Stencils.{Stands};
-ghost use Rattle.study.specs.Plans.{plan_through};
+ghost use Rattle.study.specs.Pins.{plan_through};
 
 use ground::ground::Ground;
 use layers::layer::PinLayer;

@@ -1,9 +1,8 @@
 ghost use Rattle.std.specs.Prelude.{◌≡◌, ℕ, ◌+◌, ◌-◌, Some, None, MatchResult};
-ghost use Rattle.refusal.specs.Refusals.{answer, answer_of, unless_refused};
+ghost use Rattle.refusal.specs.Refusals.{answer, answer_of};
 ghost use Rattle.stencil.specs.Stencils.{Stands};
-ghost use Rattle.layers.specs.Layers.{altered, pin_check, pinned_at, release_check};
-ghost use Rattle.layers.specs.Tables.{lookup, used};
-ghost use Rattle.study.specs.Plans.{plan_through};
+ghost use Rattle.layers.specs.Layers.{altered};
+ghost use Rattle.study.specs.Pins.{pins_in, pin_count, plan_through, pinning_check, releasing_check, ChangesPins};
 
 use crate::equations::Equations;
 use ground::ground::Ground;
@@ -24,7 +23,7 @@ pub(crate) struct LaidLayer<G: Ground> {
 impl<G: Ground> Model for LaidLayer<G> {
     ghost use Rattle.layers.specs.declared.layer.PinLayer.{PinLayer};
     ghost use Rattle.stencil.specs.Stencils.{Stands};
-    ghost use Rattle.study.specs.Plans.{plan_through};
+    ghost use Rattle.study.specs.Pins.{plan_through};
 
     ghost Value = { PinLayer G };
 
@@ -36,7 +35,7 @@ impl<G: Ground> Model for LaidLayer<G> {
 impl<G: Ground> LaidLayer<G> {
     // No pin over a ground, which comes back where there is no memory.
     pub(crate) fn new(heap: Global, ground: G) -> Result<LaidLayer<G>, AllocFailed<G>>
-        ensures { MatchResult result (λ l. (l.below ≡ ground) × ((j : ℕ) → lookup l.pins.places j ≡ None) × (used l.pins.places ≡ 0)) (λ e. e.value ≡ ground) }
+        ensures { MatchResult result (λ l. (l.below ≡ ground) × ((i : ℕ) → pins_in l i ≡ None) × (pin_count l ≡ 0)) (λ e. e.value ≡ ground) }
     {
         let Ok(mut equations) = Equations::new(heap) else {
             return Err(AllocFailed { value: ground });
@@ -53,10 +52,8 @@ impl<G: Ground> LaidLayer<G> {
     }
 
     pub(crate) fn pin(&mut self, cell: usize, temperature: i64) -> Result<(), Refusal>
-        ensures answer { answer_of result ≡ answer (pin_check (G.plan self.old.below) self.old.pins.places cell temperature) tt }
-        ensures pins { (j : ℕ) → pinned_at self.new.pins.places j ≡ unless_refused (pin_check (G.plan self.old.below) self.old.pins.places cell temperature) (pinned_at self.old.pins.places j) (altered (pinned_at self.old.pins.places) cell (Some temperature) j) }
-        ensures count { used self.new.pins.places ≡ unless_refused (pin_check (G.plan self.old.below) self.old.pins.places cell temperature) (used self.old.pins.places) (used self.old.pins.places + 1) }
-        ensures kept { self.new.below ≡ self.old.below }
+        ensures answer { answer_of result ≡ answer (pinning_check G.plan self.old cell temperature) tt }
+        ensures layer { ChangesPins self.old self.new (pinning_check G.plan self.old cell temperature) (altered (pins_in self.old) cell (Some temperature)) (pin_count self.old + 1) }
     {
         self.layer.pin(cell, temperature)?;
         self.equations.lay_out(&self.layer);
@@ -64,10 +61,8 @@ impl<G: Ground> LaidLayer<G> {
     }
 
     pub(crate) fn release(&mut self, cell: usize) -> Result<(), Refusal>
-        ensures answer { answer_of result ≡ answer (release_check (G.plan self.old.below) self.old.pins.places cell) tt }
-        ensures pins { (j : ℕ) → pinned_at self.new.pins.places j ≡ unless_refused (release_check (G.plan self.old.below) self.old.pins.places cell) (pinned_at self.old.pins.places j) (altered (pinned_at self.old.pins.places) cell None j) }
-        ensures count { used self.new.pins.places ≡ unless_refused (release_check (G.plan self.old.below) self.old.pins.places cell) (used self.old.pins.places) (used self.old.pins.places - 1) }
-        ensures kept { self.new.below ≡ self.old.below }
+        ensures answer { answer_of result ≡ answer (releasing_check G.plan self.old cell) tt }
+        ensures layer { ChangesPins self.old self.new (releasing_check G.plan self.old cell) (altered (pins_in self.old) cell None) (pin_count self.old - 1) }
     {
         self.layer.release(cell)?;
         self.equations.lay_out(&self.layer);

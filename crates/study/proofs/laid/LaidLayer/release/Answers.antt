@@ -1,14 +1,17 @@
-use Rattle.std.proofs.Common.{None}
+use Rattle.std.proofs.Common.{None, subst}
 use Rattle.refusal.specs.Refusals.{fault_of}
-use Rattle.layers.specs.Layers.{altered, pinned_at, release_check}
-use Rattle.study.proofs.Laying.{still_stand}
+use Rattle.layers.specs.Layers.{altered}
+use Rattle.stencil.specs.Stencils.{Stands}
+use Rattle.study.specs.Pins.{pins_in, releasing_check}
+use Rattle.study.proofs.Laying.{same_plan}
 use Rattle.study.proofs.laid.LaidLayer.release.Goals as goal
 
 pub invariant_of-self : goal.invariant_of-self
 invariant_of-self g c =
-    let ground = g.G.Ground.plan in
+    let plan = g.G.Ground.plan in
     let layer = c.self.inside.layer in
     let cell = c.args.cell in
-    still_stand ground layer c.release.new.self c.self.inside.equations.rows.items (release_check (ground layer.below) layer.pins.places cell)
-    (fault_of c.in_err-release.field-0.0) (altered (pinned_at layer.pins.places) cell None)
-    c.in_err-release.ensures.answer c.release.ensures.kept c.release.ensures.pins c.self.invariant
+    let same =
+    same_plan plan layer c.release.new.self (releasing_check plan layer cell) (altered (pins_in layer) cell None) (fault_of c.in_err-release.field-0.0)
+    c.in_err-release.ensures.answer c.release.ensures.kept c.release.ensures.pins in
+    subst (λ p. Stands p c.self.inside.equations.rows.items) same c.self.invariant

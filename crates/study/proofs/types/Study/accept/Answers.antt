@@ -6,16 +6,8 @@ use Rattle.certificate.specs.Certifying.{certificate_check, written}
 use Rattle.study.specs.Calls.{certificate_of, standing}
 use Rattle.study.specs.Studies.{equations_of, standing_of}
 use Rattle.certificate.specs.Counting.{open_count}
-use Rattle.study.proofs.Laying.{laid_by}
 use Rattle.study.proofs.Checks.{refused_is, accept_is}
 use Rattle.study.proofs.types.Study.accept.Goals as goal
-
-pub certify-requires : goal.certify-requires
-certify-requires g c = record {
-  temperatures = laid_by c.requires.temperatures c.rows-rows.ensures;
-  majorant = laid_by c.requires.majorant c.rows-rows.ensures;
-  brackets = laid_by c.requires.brackets c.rows-rows.ensures;
-}
 
 pub returns-in_err-rest : goal.returns-in_err-rest
 returns-in_err-rest g c =

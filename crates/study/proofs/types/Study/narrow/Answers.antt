@@ -2,22 +2,14 @@ use Rattle.std.proofs.Common.{refl, ap, ◌∙◌}
 use Rattle.certificate.specs.Counting.{open_count}
 use Rattle.study.specs.Calls.{standing}
 use Rattle.study.specs.Studies.{equations_of}
-use Rattle.study.proofs.Laying.{laid_by}
 use Rattle.study.proofs.types.Study.narrow.Goals as goal
 
-pub tighten_laid-ran-requires : goal.tighten_laid-ran-requires
-tighten_laid-ran-requires g c = laid_by c.requires c.rows-rows.ensures
-
-pub returns : goal.returns
-returns g c =
+pub returns-clause-study : goal.returns-clause-study
+returns-clause-study g c =
     let p = equations_of g.G.Ground.plan c.args.self.now in
     let grid = c.tighten_laid-ran.ensures.grid p c.rows-rows.ensures in
     record {
-      answer = c.tighten_laid-ran.ensures.answer p c.rows-rows.ensures;
-      grid = grid;
-      study = record {
-        layer = refl;
-        tolerance = refl;
-        stands = ap (standing c.args.state) (c.count_open-self.ensures p c.rows-rows.ensures ∙ ap (open_count p c.args.self.now.tolerance.width) grid);
-      };
+      layer = refl;
+      tolerance = refl;
+      stands = ap (standing c.args.state) (c.count_open-self.ensures p c.rows-rows.ensures ∙ ap (open_count p c.args.self.now.tolerance.width) grid);
     }

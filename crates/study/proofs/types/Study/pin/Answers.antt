@@ -1,53 +1,24 @@
-use Rattle.std.proofs.Common.{◌+◌, Some, refl, ap, ◌∙◌}
-use Rattle.std.proofs.lemmas.Result.{err_from_is_err_and}
+use Rattle.std.proofs.Common.{◌+◌, Some, refl}
 use Rattle.std.proofs.lemmas.Int.{to_z-of_z}
 use Rattle.refusal.specs.Refusals.{fault_of}
-use Rattle.layers.specs.Layers.{altered, pinned_at, pin_check}
-use Rattle.layers.specs.Tables.{used}
-use Rattle.study.specs.Calls.{anew}
-use Rattle.study.specs.Studies.{pinning_of}
-use Rattle.study.proofs.Pins.{unless_part, stands-refused, stands-anew}
+use Rattle.layers.specs.Layers.{altered}
+use Rattle.study.specs.Pins.{pins_in, pin_count, pinning_check}
+use Rattle.study.proofs.Pins.{refused-leaves, accepted-leaves}
 use Rattle.study.proofs.types.Study.pin.Goals as goal
 
-pub returns-in_err-pin : goal.returns-in_err-pin
-returns-in_err-pin g c =
-    let q = err_from_is_err_and c.from_residual-in_err-pin.result c.from_residual-in_err-pin.ensures.1 in
-    let s = c.args.self.now in
+pub returns-in_err-pin-clause-study : goal.returns-in_err-pin-clause-study
+returns-in_err-pin-clause-study g c =
     let f = c.ranges.temperature in
-    let ground = g.G.Ground.plan s.layer.below in
-    let x = pinning_of s in
-    let pins = altered x.pins c.args.cell (Some c.args.temperature) in
-    let n = x.count + 1 in
-    let k = pin_check ground s.layer.pins.places c.args.cell c.args.temperature in
-    record {
-      answer = rw (q.1, q.2) (simp to_z-of_z at c.in_err-pin.ensures.answer);
-      study = record {
-        below = c.pin.ensures.kept;
-        tolerance = refl;
-        pins = λ i. (let a = simp to_z-of_z at (c.pin.ensures.pins i) in a) ∙ unless_part (λ y. y.pins i) k x (anew ground pins n);
-        count = (let a = simp to_z-of_z at c.pin.ensures.count in a) ∙ unless_part (λ y. y.count) k x (anew ground pins n);
-        stands = stands-refused k x ground pins n (fault_of c.in_err-pin.field-0.0) (simp to_z-of_z at c.in_err-pin.ensures.answer);
-      };
-    }
+    let plan = g.G.Ground.plan in
+    let layer = c.args.self.now.layer in
+    refused-leaves plan c.args.self.now _ c.pin.new.self (pinning_check plan layer c.args.cell c.args.temperature) (altered (pins_in layer) c.args.cell (Some c.args.temperature)) (pin_count layer + 1)
+    (simp to_z-of_z at c.pin.ensures.layer) refl refl (fault_of c.in_err-pin.field-0.0) (simp to_z-of_z at c.in_err-pin.ensures.answer) refl
 
-pub returns : goal.returns
-returns g c =
-    let s = c.args.self.now in
+pub returns-clause-study : goal.returns-clause-study
+returns-clause-study g c =
     let f = c.ranges.temperature in
-    let ground = g.G.Ground.plan s.layer.below in
-    let x = pinning_of s in
-    let pins = altered x.pins c.args.cell (Some c.args.temperature) in
-    let n = x.count + 1 in
-    let k = pin_check ground s.layer.pins.places c.args.cell c.args.temperature in
-    record {
-      answer = (let a = simp to_z-of_z at c.in_ok-pin.ensures.answer in a);
-      study = record {
-        below = ap (λ l. l.below) c.begin.ensures.layer ∙ c.pin.ensures.kept;
-        tolerance = c.begin.ensures.tolerance;
-        pins = λ i. ap (λ l. pinned_at l.pins.places i) c.begin.ensures.layer ∙ (let a = simp to_z-of_z at (c.pin.ensures.pins i) in a) ∙ unless_part (λ y. y.pins i) k x (anew ground pins n);
-        count = ap (λ l. used l.pins.places) c.begin.ensures.layer ∙ (let a = simp to_z-of_z at c.pin.ensures.count in a) ∙ unless_part (λ y. y.count) k x (anew ground pins n);
-        stands = c.begin.ensures.stands
-            ∙ stands-anew k x ground pins n c.in_ok-state.state (g.G.Ground.plan c.pin.new.self.below) (pinned_at c.pin.new.self.pins.places)
-            (simp to_z-of_z at c.in_ok-pin.ensures.answer) c.in_ok-state.ensures.1.0 (ap g.G.Ground.plan c.pin.ensures.kept) (λ i. simp to_z-of_z at (c.pin.ensures.pins i));
-      };
-    }
+    let plan = g.G.Ground.plan in
+    let layer = c.args.self.now.layer in
+    let left = c.begin.ensures in
+    accepted-leaves plan c.args.self.now _ c.pin.new.self (pinning_check plan layer c.args.cell c.args.temperature) (altered (pins_in layer) c.args.cell (Some c.args.temperature)) (pin_count layer + 1)
+    (simp to_z-of_z at c.pin.ensures.layer) left.layer left.tolerance (simp to_z-of_z at c.in_ok-pin.ensures.answer) (rw (← c.in_ok-state.ensures.1.0) left.stands)

@@ -1,36 +1,17 @@
 use Rattle.std.proofs.Common.{ap, ◌∙◌}
-use Rattle.std.proofs.lemmas.Result.{err_from_is_err_and}
 use Rattle.std.proofs.lemmas.Int.{to_z-of_z}
-use Rattle.refusal.specs.Refusals.{clear, refuse, accepted, fault_of}
+use Rattle.refusal.specs.Refusals.{accepted}
 use Rattle.study.specs.Studies.{equations_of}
-use Rattle.study.proofs.Laying.{laid_by}
 use Rattle.study.proofs.Checks.{raise_is}
 use Rattle.study.proofs.types.Study.raise.Goals as goal
-
-pub returns-in_err-shape : goal.returns-in_err-shape
-returns-in_err-shape g c =
-    let q = err_from_is_err_and c.from_residual.result c.from_residual.ensures.1 in
-    let p = equations_of g.G.Ground.plan c.args.self.now in
-    let f = c.ranges.margin in
-    let w = c.ranges.walks in
-    let e = simp to_z-of_z at c.in_err-shape.ensures in
-    let r = raise_is p c.args.grid.now c.args.margin c.args.walks (refuse (fault_of c.in_err-shape.field-0.0)) e in
-    record {
-      answer = rw (q.1, q.2) (ap (λ x. x.0) r);
-      grid = ap (λ x. x.1) r;
-    }
-
-pub raise_laid-requires : goal.raise_laid-requires
-raise_laid-requires g c = laid_by c.in_ok-shape.ensures.1.fits c.rows-rows.ensures
 
 pub returns : goal.returns
 returns g c =
     let p = equations_of g.G.Ground.plan c.args.self.now in
     let f = c.ranges.margin in
     let w = c.ranges.walks in
-    let e = simp to_z-of_z at c.in_ok-shape.ensures.0 in
-    let r = raise_is p c.args.grid.now c.args.margin c.args.walks clear e in
+    let told = raise_is p c.args.grid.now c.args.margin c.args.walks (simp to_z-of_z at c.in_ok-shape.ensures.0) in
     record {
-      answer = ap accepted (let a = simp to_z-of_z at (c.raise_laid.ensures.answer p c.rows-rows.ensures) in a) ∙ ap (λ x. x.0) r;
-      grid = (let a = simp to_z-of_z at (c.raise_laid.ensures.grid p c.rows-rows.ensures) in a) ∙ ap (λ x. x.1) r;
+      answer = ap accepted (simp to_z-of_z at (c.raise_laid.ensures.answer p c.rows-rows.ensures)) ∙ told.0;
+      grid = (let a = simp to_z-of_z at (c.raise_laid.ensures.grid p c.rows-rows.ensures) in a) ∙ told.1;
     }
