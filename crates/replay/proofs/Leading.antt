@@ -1,5 +1,5 @@
 -- What a history says of the study it has led to.
-use Rattle.std.proofs.Common.{◌≡◌, List, ℤ, sym, refl, ap, ◌∙◌}
+use Rattle.std.proofs.Common.{◌≡◌, List, ℤ, sym, refl, ap, ap₂, ◌∙◌}
 use mathlib.Core.Path.{fun_ext}
 use Rattle.section.specs.Plan.{Plan}
 use Rattle.section.specs.declared.rows.BracketRow.{BracketRow}
@@ -13,11 +13,8 @@ use Rattle.history.specs.Events.{History, held_by, pins_by, equations, grid_by, 
 use Rattle.replay.specs.Replays.{Led}
 
 -- equations in several places at once
-pub ap2 : {A B X : Type 0} (f : A → B → X) {a a' : A} {b b' : B} → a ≡ a' → b ≡ b' → f a b ≡ f a' b'
-ap2 f {a' = a'} {b = b} p q = ap (λ x. f x b) p ∙ ap (f a') q
-
 pub ap3 : {A B C X : Type 0} (f : A → B → C → X) {a a' : A} {b b' : B} {c c' : C} → a ≡ a' → b ≡ b' → c ≡ c' → f a b c ≡ f a' b' c'
-ap3 f {a' = a'} {b = b} {c = c} p q r = ap (λ x. f x b c) p ∙ ap2 (f a') q r
+ap3 f {a' = a'} {b = b} {c = c} p q r = ap (λ x. f x b c) p ∙ ap₂ (f a') q r
 
 pub ap4 :
     {A B C D X : Type 0} (f : A → B → C → D → X) {a a' : A} {b b' : B} {c c' : C} {d d' : D} → a ≡ a' → b ≡ b' → c ≡ c' → d ≡ d' →
@@ -41,7 +38,7 @@ module _ {G : Type 0} {ground : Plan} {s : Study G} {start : List BracketRow} {h
   equations_are = ap (holding ground) held_is
 
   pub standing_is : standing_of s ≡ standing_by ground s.tolerance.width start h
-  standing_is = ap2 standing led.state led.opened
+  standing_is = ap₂ standing led.state led.opened
 
   -- its pins, with what a call leaves of its brackets
   pub pinned_is : {j k : Standing} → j ≡ k → pinning (pins_in s.layer) (pin_count s.layer) j ≡ pinning (held_by h) (pins_by h) k

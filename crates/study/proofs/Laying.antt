@@ -1,27 +1,12 @@
--- What equations that are laid out tell of a grid, and what keeps them standing.
-use Rattle.std.proofs.Common.{◌≡◌, ℕ, ℤ, List, Ok, Err, Option, Result, sym, refl, ap, ◌∙◌}
+-- What keeps equations standing.
+use Rattle.std.proofs.Common.{◌≡◌, ℕ, ℤ, Option, sym, ap, ◌∙◌}
 use mathlib.Core.Path.{fun_ext}
 use Rattle.refusal.specs.Refusals.{Check, Fault, Answer, refused, answer, unless_refused}
 use Rattle.section.specs.Plan.{Plan}
-use Rattle.section.specs.declared.types.Shape.{Shape}
 use Rattle.layers.specs.Layers.{holding}
 use Rattle.layers.specs.declared.layer.PinLayer.{PinLayer}
-use Rattle.stencil.specs.Stencils.{Stands}
-use Rattle.stencil.specs.declared.types.Stencil.{Stencil}
-use Rattle.walk.specs.Walks.{ran_as}
-use Rattle.walk.specs.declared.types.Stopped.{Stopped}
-use Rattle.certificate.specs.AtRows.{Laid}
 use Rattle.study.specs.Pins.{pins_in, plan_through}
-use Rattle.study.specs.Studies.{Fits}
 use Rattle.study.proofs.Checks.{refused_is}
-
--- a grid that fits the plan of the equations
-pub laid_by : {s : Shape} {p : Plan} {n : ℕ} {rows : List (Option Stencil)} → Fits s p n → Stands p rows → Laid s rows n
-laid_by {p = p} fits stands = record { plan = p; stands = stands; wide = fits.wide; high = fits.high; count = fits.count }
-
-pub ran-grid : {E : Type 0} (xs : List E) (r : Result (ℕ × ℕ) Stopped) → (ran_as xs r).grid ≡ xs
-ran-grid xs (Ok r) = refl
-ran-grid xs (Err r) = refl
 
 -- a refused change of the pins leaves the plan of the equations
 pub same_plan :
