@@ -1,10 +1,10 @@
 -- What a history says of the study it has led to.
-use Rattle.std.proofs.Common.{◌≡◌, List, ℤ, sym, refl, ap, ◌∙◌}
+use Rattle.std.proofs.Common.{◌≡◌, List, ℤ, sym, refl, ap, ap₂, ◌∙◌}
 use mathlib.Core.Path.{fun_ext}
 use Rattle.section.specs.Plan.{Plan}
 use Rattle.section.specs.declared.rows.BracketRow.{BracketRow}
-use Rattle.layers.specs.Layers.{pinned_at, pin_plan, holding}
-use Rattle.layers.specs.Tables.{used}
+use Rattle.layers.specs.Layers.{holding}
+use Rattle.study.specs.Pins.{pins_in, pin_count}
 use Rattle.study.specs.Calls.{Standing, standing, Pinning, pinning}
 use Rattle.study.specs.Studies.{standing_of, pinning_of, Becomes, Repinned}
 use Rattle.study.specs.declared.types.Study.{Study}
@@ -13,11 +13,8 @@ use Rattle.history.specs.Events.{History, held_by, pins_by, equations, grid_by, 
 use Rattle.replay.specs.Replays.{Led}
 
 -- equations in several places at once
-pub ap2 : {A B X : Type 0} (f : A → B → X) {a a' : A} {b b' : B} → a ≡ a' → b ≡ b' → f a b ≡ f a' b'
-ap2 f {a' = a'} {b = b} p q = ap (λ x. f x b) p ∙ ap (f a') q
-
 pub ap3 : {A B C X : Type 0} (f : A → B → C → X) {a a' : A} {b b' : B} {c c' : C} → a ≡ a' → b ≡ b' → c ≡ c' → f a b c ≡ f a' b' c'
-ap3 f {a' = a'} {b = b} {c = c} p q r = ap (λ x. f x b c) p ∙ ap2 (f a') q r
+ap3 f {a' = a'} {b = b} {c = c} p q r = ap (λ x. f x b c) p ∙ ap₂ (f a') q r
 
 pub ap4 :
     {A B C D X : Type 0} (f : A → B → C → D → X) {a a' : A} {b b' : B} {c c' : C} {d d' : D} → a ≡ a' → b ≡ b' → c ≡ c' → d ≡ d' →
@@ -34,17 +31,17 @@ module _ (ground : Plan) (tolerance : ℤ) (start : List BracketRow) where
 
 -- what was led to stands as the history says
 module _ {G : Type 0} {ground : Plan} {s : Study G} {start : List BracketRow} {h : History} {bs : List BracketRow} (led : Led ground s start h bs) where
-  pub held_is : pinned_at s.layer.pins.places ≡ held_by h
+  pub held_is : pins_in s.layer ≡ held_by h
   held_is = fun_ext led.pins
 
-  pub equations_are : pin_plan s.layer.pins.places ground ≡ equations ground h
+  pub equations_are : holding ground (pins_in s.layer) ≡ equations ground h
   equations_are = ap (holding ground) held_is
 
   pub standing_is : standing_of s ≡ standing_by ground s.tolerance.width start h
-  standing_is = ap2 standing led.state led.opened
+  standing_is = ap₂ standing led.state led.opened
 
   -- its pins, with what a call leaves of its brackets
-  pub pinned_is : {j k : Standing} → j ≡ k → pinning (pinned_at s.layer.pins.places) (used s.layer.pins.places) j ≡ pinning (held_by h) (pins_by h) k
+  pub pinned_is : {j k : Standing} → j ≡ k → pinning (pins_in s.layer) (pin_count s.layer) j ≡ pinning (held_by h) (pins_by h) k
   pinned_is e = ap3 pinning held_is led.count e
 
   pub pinning_is : pinning_of s ≡ pinning_by ground s.tolerance.width start h
@@ -56,12 +53,12 @@ unchanged s = record { below = refl; tolerance = refl; pins = λ i. refl; count 
 
 module _ {G : Type 0} (s s' : Study G) where
   -- a call that leaves the pins
-  pub becomes : (k : Standing) → Becomes s s' k → Repinned s s' (pinning (pinned_at s.layer.pins.places) (used s.layer.pins.places) k)
+  pub becomes : (k : Standing) → Becomes s s' k → Repinned s s' (pinning (pins_in s.layer) (pin_count s.layer) k)
   becomes k so = record {
     below = ap (λ x. x.below) so.layer;
     tolerance = so.tolerance;
-    pins = λ i. ap (λ x. pinned_at x.pins.places i) so.layer;
-    count = ap (λ x. used x.pins.places) so.layer;
+    pins = λ i. ap (λ x. pins_in x i) so.layer;
+    count = ap pin_count so.layer;
     stands = so.stands;
   }
 

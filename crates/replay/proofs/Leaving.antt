@@ -1,5 +1,5 @@
 -- What each call leaves and answers is what its event says.
-use Rattle.std.proofs.Common.{◌≡◌, ℕ, ◌+◌, ◌-◌, Bool, true, false, cond, ◌&&◌, eqb, List, ◌∷◌, ℤ, Some, None, Ok, Err, Result, sym, refl, ap, ◌∙◌}
+use Rattle.std.proofs.Common.{◌≡◌, ℕ, ◌+◌, ◌-◌, Bool, true, false, cond, ◌&&◌, List, ◌∷◌, ℤ, Some, None, Ok, Err, Result, sym, refl, ap, ◌∙◌}
 use mathlib.Core.Path.{fun_ext}
 use Rattle.refusal.specs.Refusals.{Check, clear, refuse, ◌then◌, answer, unless_refused, Checked}
 use Rattle.refusal.specs.declared.types.Refusal.{Refusal}
@@ -11,7 +11,7 @@ use Rattle.section.specs.declared.rows.Majorant.{Majorant}
 use Rattle.section.specs.declared.types.Bracket.{Bracket}
 use Rattle.layers.specs.Layers.{altered, holding}
 use Rattle.certificate.specs.Counting.{open_count}
-use Rattle.study.specs.Calls.{Standing, standing, pinning, anew, proved_check, is_finished}
+use Rattle.study.specs.Calls.{Standing, standing, pinning, anew, proved_check}
 use Rattle.study.specs.declared.types.Certificate.{Certificate}
 use Rattle.study.specs.declared.types.State.TheVariants.{Unproved, Proved}
 use Rattle.history.specs.Events.{certified, pinned, released, History, held_by, pins_by, equations, grid_by, is_wide}
@@ -74,7 +74,3 @@ pub ask_is :
     bracket_answer r ≡ answer k x
 ask_is (Ok b) k x so = ap (answer clear) so.1 ∙ sym (ap (λ j. answer j x) so.0)
 ask_is (Err e) k x so = sym (ap (λ j. answer j x) so)
-
-pub finished_is : (proved : Bool) (n : ℕ) → is_finished (standing (cond proved Proved Unproved) n) ≡ (proved && eqb n 0)
-finished_is true n = refl
-finished_is false n = refl

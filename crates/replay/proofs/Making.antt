@@ -1,5 +1,5 @@
 -- What each call needs to have been made.
-use Rattle.std.proofs.Common.{◌≡◌, ℕ, Bool, List, [], ◌∷◌, length, ℤ, nat_abs, vec_items, Result, Vec, sym, refl, ap, ◌∙◌}
+use Rattle.std.proofs.Common.{◌≡◌, ℕ, List, [], ◌∷◌, length, ℤ, nat_abs, vec_items, Result, Vec, sym, refl, ap, ap₂, ◌∙◌}
 use Rattle.std.specs.declared.alloc.Global.{Global}
 use Rattle.refusal.specs.Refusals.{Check, Answer, answer, answer_of, Checked}
 use Rattle.refusal.specs.declared.types.Refusal.{Refusal}
@@ -10,26 +10,27 @@ use Rattle.section.specs.declared.rows.BracketRow.{BracketRow}
 use Rattle.section.specs.declared.rows.Temperature.{Temperature}
 use Rattle.section.specs.declared.rows.Majorant.{Majorant}
 use Rattle.section.specs.declared.types.Bracket.{Bracket}
-use Rattle.layers.specs.Layers.{pin_plan, pin_check, release_check, pin_checks, release_checks}
+use Rattle.layers.specs.Layers.{holding, pin_checks, release_checks}
+use Rattle.study.specs.Pins.{pins_in, pin_count}
 use Rattle.certificate.specs.Certifying.{written}
 use Rattle.steps.specs.Tightening.{tighten_run}
 use Rattle.steps.specs.declared.report.Raised.{Raised as Report}
-use Rattle.study.specs.Calls.{Pinning, length_check, walks, relax_answer, relax_grid, raise_answer, raise_grid, basis_of, certify_check, certificate_of, certify_answer, certify_grid, certify_standing, tighten_answer, tighten_grid, tighten_standing, ask_check, pin_leaves, release_leaves, is_finished}
+use Rattle.study.specs.Calls.{Pinning, length_check, walks, relax_answer, relax_grid, raise_answer, raise_grid, basis_of, certify_check, certificate_of, certify_answer, certify_grid, certify_standing, tighten_answer, tighten_grid, tighten_standing, ask_check, pin_leaves, release_leaves}
 use Rattle.study.specs.Studies.{standing_of, pinning_of, Becomes, Repinned}
 use Rattle.study.specs.declared.types.Certificate.{Certificate}
 use Rattle.study.specs.declared.types.State.{State}
 use Rattle.study.specs.declared.types.Study.{Study}
 use Rattle.history.specs.Doing.{state_by, Does}
-use Rattle.history.specs.Events.{Event as Happened, certified, tightened, pinned, released, History, held_by, pins_by, equations, proved_by, grid_by, open_by}
+use Rattle.history.specs.Events.{Event as Happened, certified, tightened, pinned, released, History, held_by, pins_by, equations, proved_by, grid_by}
 use Rattle.replay.specs.Calls.{call_kind, answer_kind, Handed, passed, happened}
 use Rattle.replay.specs.Replays.{Led, Made}
 use Rattle.replay.specs.declared.types.Call.{Call}
-use Rattle.replay.specs.declared.types.Call.TheVariants.{Relax, Raise, Certify, Tighten, Pin, Release, Bracket as Ask, OpenCount, Finished}
+use Rattle.replay.specs.declared.types.Call.TheVariants.{Relax, Raise, Certify, Tighten, Pin, Release, Bracket as Ask}
 use Rattle.replay.specs.declared.types.Answer.{Answer as Told}
-use Rattle.replay.specs.declared.types.Answer.TheVariants.{Relaxed, Raised, Certified, Tightened, Pinned, Released, Bracket as Asked, OpenCount as Counted, Finished as SaidFinished}
+use Rattle.replay.specs.declared.types.Answer.TheVariants.{Relaxed, Raised, Certified, Tightened, Pinned, Released, Bracket as Asked}
 use Rattle.replay.specs.declared.types.Event.{Event}
-use Rattle.replay.proofs.Leading.{ap2, ap3, ap4, standing_by, pinning_by, held_is, equations_are, standing_is, pinned_is, pinning_is, unchanged, becomes, leads_on}
-use Rattle.replay.proofs.Leaving.{certify-stands, tighten-stands, pin_left, release_left, ask_is, finished_is}
+use Rattle.replay.proofs.Leading.{ap3, ap4, standing_by, pinning_by, held_is, equations_are, standing_is, pinned_is, pinning_is, unchanged, becomes, leads_on}
+use Rattle.replay.proofs.Leaving.{certify-stands, tighten-stands, pin_left, release_left, ask_is}
 
 -- a call that comes back as it was passed
 handed-back : (c : Call) (a : Told) → answer_kind a ≡ call_kind c → Handed c (record { call = c; answer = a })
@@ -37,7 +38,7 @@ handed-back c a e = record { kind = refl; answered = e; cell = refl; number = re
 
 -- the equations of a study, and its tolerance
 abbrev laid : {G : Type 0} → Plan → Study G → Plan
-laid ground s = pin_plan s.layer.pins.places ground
+laid ground s = holding ground (pins_in s.layer)
 
 abbrev wide : {G : Type 0} → Study G → ℤ
 wide s = s.tolerance.width
@@ -81,10 +82,10 @@ module _ {G : Type 0} {ground : Plan} {s s' : Study G} {bs cs : List BracketRow}
       let grid : List BracketRow = written p (basis_of (state_by h)) xs ys now in
       let after : List BracketRow = certify_grid p (state_by h) xs ys now in
       let told' : answer_of r ≡ answer k x =
-      told ∙ ap2 (λ a b. certify_answer (laid ground s) (wide s) s.state a b bs) ev ew ∙ ap3 (λ a b d. certify_answer a (wide s) b xs ys d) q led.state led.grid in
-      let left' : cs ≡ after = left ∙ ap2 (λ a b. certify_grid (laid ground s) s.state a b bs) ev ew ∙ ap3 (λ a b d. certify_grid a b xs ys d) q led.state led.grid in
+      told ∙ ap₂ (λ a b. certify_answer (laid ground s) (wide s) s.state a b bs) ev ew ∙ ap3 (λ a b d. certify_answer a (wide s) b xs ys d) q led.state led.grid in
+      let left' : cs ≡ after = left ∙ ap₂ (λ a b. certify_grid (laid ground s) s.state a b bs) ev ew ∙ ap3 (λ a b d. certify_grid a b xs ys d) q led.state led.grid in
       let stood : certify_standing (laid ground s) (wide s) (standing_of s) us ws bs ≡ standing_by ground (wide s) start (certified xs ys (answer_of r) after ∷ h) =
-      ap2 (λ a b. certify_standing (laid ground s) (wide s) (standing_of s) a b bs) ev ew
+      ap₂ (λ a b. certify_standing (laid ground s) (wide s) (standing_of s) a b bs) ev ew
       ∙ ap3 (λ a b d. certify_standing a (wide s) b xs ys d) q (standing_is led) led.grid
       ∙ certify-stands ground (wide s) start h xs ys k x grid
       ∙ ap (λ a. standing_by ground (wide s) start (certified xs ys a after ∷ h)) (sym told') in
@@ -111,7 +112,7 @@ module _ {G : Type 0} {ground : Plan} {s s' : Study G} {bs cs : List BracketRow}
 -- calls that leave the brackets as they were
 module _ {G : Type 0} {ground : Plan} {s s' : Study G} {bs : List BracketRow} where
   pub pin-made :
-      {i : ℕ} {t t' : ℤ} {r : Result (Unit {0}) Refusal} → t' ≡ t → answer_of r ≡ answer (pin_check ground s.layer.pins.places i t') tt →
+      {i : ℕ} {t t' : ℤ} {r : Result (Unit {0}) Refusal} → t' ≡ t → answer_of r ≡ answer (pin_checks ground (pins_in s.layer) (pin_count s.layer) i t') tt →
       Repinned s s' (pin_leaves ground (pinning_of s) i t') →
       Made ground s bs (Pin i t) (record { call = Pin i t'; answer = Pinned r }) s' bs
   pin-made {i = i} {t = t} {t' = t'} {r = r} et told so =
@@ -121,14 +122,14 @@ module _ {G : Type 0} {ground : Plan} {s s' : Study G} {bs : List BracketRow} wh
       let k : Check = pin_checks ground (held_by h) (pins_by h) i t in
       let told' : answer_of r ≡ answer k tt = told ∙ ap3 (λ a b z. answer (pin_checks ground a b i z) tt) (held_is led) led.count et in (
         told',
-        ap2 (λ x z. pin_leaves ground x i z) (pinning_is led) et
+        ap₂ (λ x z. pin_leaves ground x i z) (pinning_is led) et
             ∙ pin_left ground (wide s) start h i t k
             ∙ ap (λ a. pinning_by ground (wide s) start (pinned i t a ∷ h)) (sym told'),
         led.grid,
       ))
 
   pub release-made :
-      {i : ℕ} {r : Result (Unit {0}) Refusal} → answer_of r ≡ answer (release_check ground s.layer.pins.places i) tt →
+      {i : ℕ} {r : Result (Unit {0}) Refusal} → answer_of r ≡ answer (release_checks ground (pins_in s.layer) i) tt →
       Repinned s s' (release_leaves ground (pinning_of s) i) →
       Made ground s bs (Release i) (record { call = Release i; answer = Released r }) s' bs
   release-made {i = i} {r = r} told so =
@@ -191,18 +192,3 @@ module _ {G : Type 0} {ground : Plan} {s : Study G} {bs : List BracketRow} where
       let asking : Plan → State → List BracketRow → Answer BracketRow = λ p k x. answer (ask_check p k (length x) i) (brackets x i) in
       let answered = ask_is r (ask_check (laid ground s) s.state (length bs) i) (brackets bs i) told in
       (answered ∙ ap3 asking (equations_are led) led.state led.grid, refl, refl))
-
-  pub count-made :
-      {n : ℕ} → n ≡ s.«open» → Made ground s bs OpenCount (record { call = OpenCount; answer = Counted n }) s bs
-  count-made {n = n} told =
-      same OpenCount (record { call = OpenCount; answer = Counted n })
-      (handed-back OpenCount (Counted n) refl)
-      (λ start h led. (told ∙ led.opened, refl, refl))
-
-  pub finished-made :
-      {b : Bool} → b ≡ is_finished (standing_of s) → Made ground s bs Finished (record { call = Finished; answer = SaidFinished b }) s bs
-  finished-made {b = b} told =
-      same Finished (record { call = Finished; answer = SaidFinished b })
-      (handed-back Finished (SaidFinished b) refl)
-      (λ start h led.
-      (told ∙ ap is_finished (standing_is led) ∙ finished_is (proved_by h) (open_by ground (wide s) start h), refl, refl))

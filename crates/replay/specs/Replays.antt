@@ -2,8 +2,7 @@
 use Rattle.std.specs.Prelude.{◌≡◌, ℕ, List, ◌∷◌, ◌++◌, ℤ}
 use Rattle.section.specs.Plan.{Plan}
 use Rattle.section.specs.declared.rows.BracketRow.{BracketRow}
-use Rattle.layers.specs.Layers.{pinned_at}
-use Rattle.layers.specs.Tables.{used}
+use Rattle.study.specs.Pins.{pins_in, pin_count}
 use Rattle.study.specs.declared.types.Study.{Study}
 use Rattle.history.specs.Doing.{state_by, Does, Done}
 use Rattle.history.specs.Events.{History, held_by, pins_by, grid_by, open_by}
@@ -14,8 +13,8 @@ use Rattle.replay.specs.declared.types.Event.{Event}
 
 -- A study that a history has led to, from a bracket grid that was start to one that is bs. A new study has the empty history, whatever its grid holds.
 pub record Led {G : Type 0} (base : Plan) (s : Study G) (start : List BracketRow) (h : History) (bs : List BracketRow) : Type 0 where
-  pub pins : (i : ℕ) → pinned_at s.layer.pins.places i ≡ held_by h i
-  pub count : used s.layer.pins.places ≡ pins_by h
+  pub pins : (i : ℕ) → pins_in s.layer i ≡ held_by h i
+  pub count : pin_count s.layer ≡ pins_by h
   pub state : s.state ≡ state_by h
   pub opened : s.«open» ≡ open_by base s.tolerance.width start h
   pub grid : bs ≡ grid_by start h

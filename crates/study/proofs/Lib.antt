@@ -1,3 +1,2 @@
-mod Laying
-pub mod Checks
+mod Checks
 mod Pins

@@ -3,15 +3,14 @@ use Rattle.std.specs.Prelude.{◌≡◌, ℕ, ℤ, pos, ◌≤ℤ◌, None}
 use Rattle.section.specs.Limits.{Number}
 use Rattle.section.specs.Plan.{Plan, size}
 use Rattle.section.specs.declared.types.Tolerance.{Tolerance}
-use Rattle.layers.specs.Layers.{pin_plan, pinned_at}
-use Rattle.layers.specs.Tables.{lookup, used}
+use Rattle.study.specs.Pins.{pins_in, pin_count, plan_through}
 use Rattle.study.specs.Calls.{Standing, standing, Pinning, pinning}
 use Rattle.study.specs.declared.types.State.TheVariants.{Unproved}
 use Rattle.study.specs.declared.types.Study.{Study}
 
 -- the plan of its equations, by the meaning of its ground
 abbrev pub equations_of : {G : Type 0} → (G → Plan) → Study G → Plan
-equations_of plan s = pin_plan s.layer.pins.places (plan s.layer.below)
+equations_of plan s = plan_through plan s.layer
 
 -- how its brackets stand
 abbrev pub standing_of : {G : Type 0} → Study G → Standing
@@ -25,21 +24,21 @@ pub record Becomes {G : Type 0} (before after : Study G) (k : Standing) : Type 0
 
 -- how its pins and brackets stand
 abbrev pub pinning_of : {G : Type 0} → Study G → Pinning
-pinning_of s = pinning (pinned_at s.layer.pins.places) (used s.layer.pins.places) (standing_of s)
+pinning_of s = pinning (pins_in s.layer) (pin_count s.layer) (standing_of s)
 
 -- a call that may change the pins; ground and tolerance stay
 pub record Repinned {G : Type 0} (before after : Study G) (x : Pinning) : Type 0 where
   pub below : after.layer.below ≡ before.layer.below
   pub tolerance : after.tolerance ≡ before.tolerance
-  pub pins : (i : ℕ) → pinned_at after.layer.pins.places i ≡ x.pins i
-  pub count : used after.layer.pins.places ≡ x.count
+  pub pins : (i : ℕ) → pins_in after.layer i ≡ x.pins i
+  pub count : pin_count after.layer ≡ x.count
   pub stands : standing_of after ≡ x.stands
 
 -- a new study: its ground and tolerance as given, unproved, no pin
 pub record Fresh {G : Type 0} (s : Study G) (base : G) (tolerance : Tolerance) : Type 0 where
   pub below : s.layer.below ≡ base
-  pub pins : (i : ℕ) → lookup s.layer.pins.places i ≡ None
-  pub none : used s.layer.pins.places ≡ 0
+  pub pins : (i : ℕ) → pins_in s.layer i ≡ None
+  pub none : pin_count s.layer ≡ 0
   pub tolerance_is : s.tolerance ≡ tolerance
   pub state : s.state ≡ Unproved
 

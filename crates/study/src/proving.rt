@@ -7,10 +7,10 @@ ghost use Rattle.steps.specs.Steps.{counts_of};
 ghost use Rattle.steps.specs.Tightening.{tighten_run};
 ghost use Rattle.certificate.specs.Certifying.{certificate_check, written};
 ghost use Rattle.certificate.specs.Counting.{open_count};
-ghost use Rattle.layers.specs.Layers.{pin_check, release_check};
 ghost use Rattle.section.specs.Reading.{plain, brackets as brackets_of};
 ghost use Rattle.study.specs.Calls.{standing, length_check, certificate_of, certify_answer, certify_grid, certify_standing, tighten_answer, tighten_grid, tighten_standing, ask_check, pin_leaves, release_leaves, is_finished};
 ghost use Rattle.study.specs.Events.{walk_answer_of};
+ghost use Rattle.study.specs.Pins.{pinning_check, releasing_check};
 ghost use Rattle.study.specs.Studies.{equations_of, standing_of, pinning_of, Repinned, Becomes};
 
 use crate::event::{Event, meets};
@@ -137,7 +137,7 @@ impl<G: Ground> Study<G> {
 
     // Holds a free cell at a temperature. What was proved is proved no more.
     pub fn pin(&mut self, cell: usize, temperature: i64) -> Result<(), Refusal>
-        ensures answer { answer_of result ≡ answer (pin_check (G.plan self.old.layer.below) self.old.layer.pins.places cell temperature) tt }
+        ensures answer { answer_of result ≡ answer (pinning_check G.plan self.old.layer cell temperature) tt }
         ensures study { Repinned self.old self.new (pin_leaves (G.plan self.old.layer.below) (pinning_of self.old) cell temperature) }
     {
         let (state, _) = meets(self.state, Event::Pin)?;
@@ -148,7 +148,7 @@ impl<G: Ground> Study<G> {
 
     // Frees a pinned cell again. What was proved is proved no more.
     pub fn release(&mut self, cell: usize) -> Result<(), Refusal>
-        ensures answer { answer_of result ≡ answer (release_check (G.plan self.old.layer.below) self.old.layer.pins.places cell) tt }
+        ensures answer { answer_of result ≡ answer (releasing_check G.plan self.old.layer cell) tt }
         ensures study { Repinned self.old self.new (release_leaves (G.plan self.old.layer.below) (pinning_of self.old) cell) }
     {
         let (state, _) = meets(self.state, Event::Release)?;
@@ -159,9 +159,7 @@ impl<G: Ground> Study<G> {
 
     // Every free cell is open where nothing is proved.
     fn begin(&mut self, state: State)
-        ensures layer { self.new.layer ≡ self.old.layer }
-        ensures tolerance { self.new.tolerance ≡ self.old.tolerance }
-        ensures stands { standing_of self.new ≡ standing state (free_count (equations_of G.plan self.old)) }
+        ensures { Becomes self.old self.new (standing state (free_count (equations_of G.plan self.old))) }
     {
         self.state = state;
         self.open = free_cells(&self.layer);

@@ -1,6 +1,6 @@
 use Rattle.std.proofs.Common.{w64, SFits, rules}
 use Rattle.std.proofs.lemmas.Int.{to_z-of_z}
-use Rattle.replay.proofs.Making.{tighten-made, pin-made, release-made, ask-made, count-made, finished-made}
+use Rattle.replay.proofs.Making.{tighten-made, pin-made, release-made, ask-made}
 use Rattle.replay.proofs.make.make.Goals as goal
 
 pub returns-in-Relax : goal.returns-in-Relax
@@ -16,9 +16,6 @@ returns-in-Raise g c =
     let n : SFits w64 c.in-Raise.walks = search rules in
     let made = rw (to_z-of_z w64 c.in-Raise.margin m, to_z-of_z w64 c.in-Raise.walks n) at (c.raised.ensures c.args.brackets.now) in
     rw c.in-Raise.is made
-
-pub returns-in-Certify : goal.returns-in-Certify
-returns-in-Certify g c = rw c.in-Certify.is c.certified.ensures
 
 pub returns-in-Tighten : goal.returns-in-Tighten
 returns-in-Tighten g c =
@@ -36,9 +33,3 @@ returns-in-Release g c = rw c.in-Release.is (release-made c.release.ensures.answ
 
 pub returns-in-Bracket : goal.returns-in-Bracket
 returns-in-Bracket g c = rw c.in-Bracket.is (ask-made c.bracket.ensures)
-
-pub returns-in-OpenCount : goal.returns-in-OpenCount
-returns-in-OpenCount g c = rw c.in-OpenCount.is (count-made c.open_count.ensures)
-
-pub returns-in-Finished : goal.returns-in-Finished
-returns-in-Finished g c = rw c.in-Finished.is (finished-made c.finished.ensures)

@@ -1,5 +1,5 @@
-use Rattle.std.proofs.Common.{◌≡◌, List, [], ◌∷◌, ◌++◌, length, vec_items, sym, refl, ap, ◌∙◌, subst, arith, length-append}
-use Rattle.std.proofs.lemmas.List.{append_assoc, append-nil, length_push, nil_from_length}
+use Rattle.std.proofs.Common.{List, [], ◌∷◌, ◌++◌, length, vec_items, sym, refl, ap, ◌∙◌, subst, arith}
+use Rattle.std.proofs.lemmas.List.{append_assoc, length_push}
 use Rattle.section.specs.Plan.{Plan}
 use Rattle.replay.specs.Replays.{Made, Replayed}
 use Rattle.replay.specs.declared.types.Call.{Call}
@@ -15,14 +15,6 @@ loop-call-init g c =
     let p : Plan = g.G.Ground.plan s.layer.below in
     let P : List Event → Type 0 = λ es. Replayed p s bs [] es s bs in
     (refl, c.in-Ok.events.ok.0 ∙ ap length made.items, refl, subst P (sym made.items) (none_made p s bs))
-
-pub push_reserved-requires : goal.push_reserved-requires
-push_reserved-requires g c =
-    let inv = c.loop-call.invariant in
-    let rest = c.loop-call.call-iterator.rest.items in
-    let all : length (c.loop-call.yielded ++ rest) ≡ length (vec_items c.args.calls) = ap length (inv.0 ∙ c.into_iter-call-iterator.ensures.into_iter_gives.0) in
-    let more = ap length c.in-Some.ensures.steps.0 in
-    omega (arith, inv.1, inv.2, all, more, length-append c.loop-call.yielded rest, c.args.calls.ok.0, c.len.ensures, c.in-Ok.ensures.capacity)
 
 pub loop-call-preserved : goal.loop-call-preserved
 loop-call-preserved g c =
@@ -42,14 +34,3 @@ loop-call-preserved g c =
           one_more p s bs done (vec_items c.loop-call.events) c.loop-call.study c.loop-call.brackets call c.make.result c.make.new.study c.make.new.brackets
           inv.3 (subst M (ap g.G.Ground.plan inv.3.below) c.make.ensures)),
     )
-
-pub returns : goal.returns
-returns g c =
-    let inv = c.loop-call.invariant in
-    let s = c.args.study.now in
-    let done = c.loop-call.yielded in
-    let rest = c.loop-call.call-iterator.rest in
-    let end : rest.items ≡ [] = nil_from_length rest.items (sym rest.ok.0 ∙ c.in-None.ensures.steps.0) in
-    let all : done ≡ vec_items c.args.calls = sym (append-nil done) ∙ sym (ap (λ (l : List Call). done ++ l) end) ∙ inv.0 ∙ c.into_iter-call-iterator.ensures.into_iter_gives.0 in
-    let R : List Call → Type 0 = λ cs. Replayed (g.G.Ground.plan s.layer.below) s c.args.brackets.now cs (vec_items c.loop-call.events) c.loop-call.study c.loop-call.brackets in
-    subst R all inv.3
