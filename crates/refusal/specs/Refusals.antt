@@ -1,5 +1,5 @@
 -- A refusal has a number, a place and a level.
-use Rattle.std.specs.Prelude.{ℕ, Bool, true, false, List, Some, None, Ok, Err, codes, Option, Result}
+use Rattle.std.specs.Prelude.{◌≡◌, ℕ, Bool, true, false, List, Some, None, Ok, Err, codes, Option, Result, MatchResult}
 use Rattle.refusal.specs.declared.types.TableFault.{TableFault}
 use Rattle.refusal.specs.declared.types.TableFault.TheVariants.{PinnedAlready, NoPin, Full}
 use Rattle.refusal.specs.declared.types.WalkFault.{WalkFault}
@@ -106,3 +106,7 @@ unless_refused (refuse f) before after = before
 abbrev pub check_of : {X : Type 0} → Result X Refusal → Check
 check_of (Ok x) = clear
 check_of (Err e) = refuse (fault_of e)
+
+-- a call that its checks clear answers what holds of the result; a call that they refuse tells their fault
+abbrev pub Checked : {X : Type 0} → Result X Refusal → Check → (X → Type 0) → Type 0
+Checked r c P = MatchResult r (λ x. (c ≡ clear) × P x) (λ e. c ≡ refuse (fault_of e))
