@@ -13,6 +13,7 @@ use measure::grids::margin_at;
 use measure::measure::Measure;
 use scan::Check;
 use section::rows::{BracketRow, Majorant, Temperature};
+use section::types::Bracket;
 use stencil::types::Stencil;
 use steps::raise::height;
 
@@ -130,7 +131,7 @@ impl Check for Apart<'_> {
                     *stencil,
                     cell,
                 );
-                crosses(shared(own, self.brackets[cell].bracket()))
+                crosses(shared(own, Bracket::from(self.brackets[cell])))
             }
         }
     }

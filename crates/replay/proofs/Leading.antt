@@ -34,17 +34,17 @@ module _ (ground : Plan) (tolerance : ℤ) (start : List BracketRow) where
 
 -- what was led to stands as the history says
 module _ {G : Type 0} {ground : Plan} {s : Study G} {start : List BracketRow} {h : History} {bs : List BracketRow} (led : Led ground s start h bs) where
-  pub held_is : pinned_at s.layer.pins.places ≡ held_by h
+  pub held_is : pinned_at s.layer.table.places ≡ held_by h
   held_is = fun_ext led.pins
 
-  pub equations_are : pin_plan s.layer.pins.places ground ≡ equations ground h
+  pub equations_are : pin_plan s.layer.table.places ground ≡ equations ground h
   equations_are = ap (holding ground) held_is
 
   pub standing_is : standing_of s ≡ standing_by ground s.tolerance.width start h
   standing_is = ap2 standing led.state led.opened
 
   -- its pins, with what a call leaves of its brackets
-  pub pinned_is : {j k : Standing} → j ≡ k → pinning (pinned_at s.layer.pins.places) (used s.layer.pins.places) j ≡ pinning (held_by h) (pins_by h) k
+  pub pinned_is : {j k : Standing} → j ≡ k → pinning (pinned_at s.layer.table.places) (used s.layer.table.places) j ≡ pinning (held_by h) (pins_by h) k
   pinned_is e = ap3 pinning held_is led.count e
 
   pub pinning_is : pinning_of s ≡ pinning_by ground s.tolerance.width start h
@@ -52,12 +52,12 @@ module _ {G : Type 0} {ground : Plan} {s : Study G} {start : List BracketRow} {h
 
 module _ {G : Type 0} (s s' : Study G) where
   -- a call that leaves the pins
-  pub becomes : (k : Standing) → Becomes s s' k → Repinned s s' (pinning (pinned_at s.layer.pins.places) (used s.layer.pins.places) k)
+  pub becomes : (k : Standing) → Becomes s s' k → Repinned s s' (pinning (pinned_at s.layer.table.places) (used s.layer.table.places) k)
   becomes k so = record {
     below = ap (λ x. x.below) so.layer;
     tolerance = so.tolerance;
-    pins = λ i. ap (λ x. pinned_at x.pins.places i) so.layer;
-    count = ap (λ x. used x.pins.places) so.layer;
+    pins = λ i. ap (λ x. pinned_at x.table.places i) so.layer;
+    count = ap (λ x. used x.table.places) so.layer;
     stands = so.stands;
   }
 

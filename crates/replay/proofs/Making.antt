@@ -41,7 +41,7 @@ left_alone = record { layer = refl; tolerance = refl; state = refl; count = refl
 
 -- the equations of a study, and its tolerance
 abbrev laid : {G : Type 0} → Plan → Study G → Plan
-laid ground s = pin_plan s.layer.pins.places ground
+laid ground s = pin_plan s.layer.table.places ground
 
 abbrev wide : {G : Type 0} → Study G → ℤ
 wide s = s.tolerance.width
@@ -174,7 +174,7 @@ module _ {G : Type 0} {ground : Plan} {s s' : Study G} {bs cs : List BracketRow}
       ((told ∙ ap4 tighten_answer q led.state led.grid en, refl), pinned_is led stood, left ∙ ap4 tighten_grid q led.state led.grid en))
 
   pub pin-made :
-      {i : ℕ} {t t' : ℤ} {r : Result (Unit {0}) Refusal} → t' ≡ t → answer_of r ≡ answer (pin_check ground s.layer.pins.places i t') tt →
+      {i : ℕ} {t t' : ℤ} {r : Result (Unit {0}) Refusal} → t' ≡ t → answer_of r ≡ answer (pin_check ground s.layer.table.places i t') tt →
       Repinned s s' (pin_leaves ground (pinning_of s) i t') → cs ≡ bs →
       Made ground s bs (Pin i t) (record { call = Pin i t'; answer = Pinned r }) s' cs
   pin-made {i = i} {t = t} {t' = t'} {r = r} et told so grid =
@@ -191,7 +191,7 @@ module _ {G : Type 0} {ground : Plan} {s s' : Study G} {bs cs : List BracketRow}
       ))
 
   pub release-made :
-      {i : ℕ} {r : Result (Unit {0}) Refusal} → answer_of r ≡ answer (release_check ground s.layer.pins.places i) tt →
+      {i : ℕ} {r : Result (Unit {0}) Refusal} → answer_of r ≡ answer (release_check ground s.layer.table.places i) tt →
       Repinned s s' (release_leaves ground (pinning_of s) i) → cs ≡ bs →
       Made ground s bs (Release i) (record { call = Release i; answer = Released r }) s' cs
   release-made {i = i} {r = r} told so grid =

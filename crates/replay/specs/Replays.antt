@@ -14,8 +14,8 @@ use Rattle.replay.specs.declared.types.Event.{Event}
 
 -- A study that a history has led to, from a bracket grid that was start to one that is bs. A new study has the empty history, whatever its grid holds.
 pub record Led {G : Type 0} (base : Plan) (s : Study G) (start : List BracketRow) (h : History) (bs : List BracketRow) : Type 0 where
-  pub pins : (i : ℕ) → pinned_at s.layer.pins.places i ≡ held_by h i
-  pub count : used s.layer.pins.places ≡ pins_by h
+  pub pins : (i : ℕ) → pinned_at s.layer.table.places i ≡ held_by h i
+  pub count : used s.layer.table.places ≡ pins_by h
   pub state : s.state ≡ state_by h
   pub opened : s.«open» ≡ open_by base s.tolerance.width start h
   pub grid : bs ≡ grid_by start h

@@ -34,6 +34,6 @@ pub fn replay<G: Ground>(
 // A new study has the empty history, whatever its bracket grid holds.
 fn has_no_history<G: Ground>(study: &Study<G>, brackets: &[BracketRow])
     requires fresh { Fresh study.now study.now.layer.below study.now.tolerance }
-    requires count { study.now.«open» ≡ free_count (pin_plan study.now.layer.pins.places (G.plan study.now.layer.below)) }
+    requires count { study.now.«open» ≡ free_count (pin_plan study.now.layer.table.places (G.plan study.now.layer.below)) }
     ensures { Led (G.plan study.now.layer.below) study.now brackets.now [] brackets.now }
 {}

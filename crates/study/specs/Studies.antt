@@ -30,21 +30,21 @@ pub record Same {G : Type 0} (before after : Study G) : Type 0 where
 
 -- how its pins and brackets stand
 abbrev pub pinning_of : {G : Type 0} → Study G → Pinning
-pinning_of s = pinning (pinned_at s.layer.pins.places) (used s.layer.pins.places) (standing_of s)
+pinning_of s = pinning (pinned_at s.layer.table.places) (used s.layer.table.places) (standing_of s)
 
 -- a call that may change the pins; ground and tolerance stay
 pub record Repinned {G : Type 0} (before after : Study G) (x : Pinning) : Type 0 where
   pub below : after.layer.below ≡ before.layer.below
   pub tolerance : after.tolerance ≡ before.tolerance
-  pub pins : (i : ℕ) → pinned_at after.layer.pins.places i ≡ x.pins i
-  pub count : used after.layer.pins.places ≡ x.count
+  pub pins : (i : ℕ) → pinned_at after.layer.table.places i ≡ x.pins i
+  pub count : used after.layer.table.places ≡ x.count
   pub stands : standing_of after ≡ x.stands
 
 -- a new study: its ground and tolerance as given, unproved, no pin
 pub record Fresh {G : Type 0} (s : Study G) (base : G) (tolerance : Tolerance) : Type 0 where
   pub below : s.layer.below ≡ base
-  pub pins : (i : ℕ) → lookup s.layer.pins.places i ≡ None
-  pub none : used s.layer.pins.places ≡ 0
+  pub pins : (i : ℕ) → lookup s.layer.table.places i ≡ None
+  pub none : used s.layer.table.places ≡ 0
   pub tolerance_is : s.tolerance ≡ tolerance
   pub state : s.state ≡ Unproved
 

@@ -28,7 +28,7 @@ use section::types::{Bracket, Shape};
 impl<G: Ground> Study<G> {
     // A grid must have an entry for each cell.
     pub(crate) fn sized(&self, length: usize) -> Result<Shape, Refusal>
-        ensures { MatchResult result (λ s. (length_check (pin_plan self.now.layer.pins.places (G.plan self.now.layer.below)) length ≡ clear) × Fits s (pin_plan self.now.layer.pins.places (G.plan self.now.layer.below)) length) (λ e. length_check (pin_plan self.now.layer.pins.places (G.plan self.now.layer.below)) length ≡ refuse (fault_of e)) }
+        ensures { MatchResult result (λ s. (length_check (pin_plan self.now.layer.table.places (G.plan self.now.layer.below)) length ≡ clear) × Fits s (pin_plan self.now.layer.table.places (G.plan self.now.layer.below)) length) (λ e. length_check (pin_plan self.now.layer.table.places (G.plan self.now.layer.below)) length ≡ refuse (fault_of e)) }
     {
         let shape = self.shape();
         if length != shape.cells() {
@@ -47,12 +47,12 @@ impl<G: Ground> Study<G> {
         basis: Basis,
         state: State,
     ) -> Result<Certificate, Refusal>
-        requires temperatures { Fits shape (pin_plan self.old.layer.pins.places (G.plan self.old.layer.below)) (length temperatures.now) }
-        requires majorant { Fits shape (pin_plan self.old.layer.pins.places (G.plan self.old.layer.below)) (length majorant.now) }
-        requires brackets { Fits shape (pin_plan self.old.layer.pins.places (G.plan self.old.layer.below)) (length brackets.old) }
-        ensures answer { answer_of result ≡ answer (certificate_check (pin_plan self.old.layer.pins.places (G.plan self.old.layer.below)) basis temperatures.now majorant.now brackets.old) (certificate_of (pin_plan self.old.layer.pins.places (G.plan self.old.layer.below)) self.old.tolerance.width basis temperatures.now majorant.now brackets.old) }
-        ensures grid { brackets.new ≡ unless_refused (certificate_check (pin_plan self.old.layer.pins.places (G.plan self.old.layer.below)) basis temperatures.now majorant.now brackets.old) brackets.old (written (pin_plan self.old.layer.pins.places (G.plan self.old.layer.below)) basis temperatures.now majorant.now brackets.old) }
-        ensures study { Becomes self.old self.new (unless_refused (certificate_check (pin_plan self.old.layer.pins.places (G.plan self.old.layer.below)) basis temperatures.now majorant.now brackets.old) (standing_of self.old) (standing state (open_count (pin_plan self.old.layer.pins.places (G.plan self.old.layer.below)) self.old.tolerance.width (written (pin_plan self.old.layer.pins.places (G.plan self.old.layer.below)) basis temperatures.now majorant.now brackets.old)))) }
+        requires temperatures { Fits shape (pin_plan self.old.layer.table.places (G.plan self.old.layer.below)) (length temperatures.now) }
+        requires majorant { Fits shape (pin_plan self.old.layer.table.places (G.plan self.old.layer.below)) (length majorant.now) }
+        requires brackets { Fits shape (pin_plan self.old.layer.table.places (G.plan self.old.layer.below)) (length brackets.old) }
+        ensures answer { answer_of result ≡ answer (certificate_check (pin_plan self.old.layer.table.places (G.plan self.old.layer.below)) basis temperatures.now majorant.now brackets.old) (certificate_of (pin_plan self.old.layer.table.places (G.plan self.old.layer.below)) self.old.tolerance.width basis temperatures.now majorant.now brackets.old) }
+        ensures grid { brackets.new ≡ unless_refused (certificate_check (pin_plan self.old.layer.table.places (G.plan self.old.layer.below)) basis temperatures.now majorant.now brackets.old) brackets.old (written (pin_plan self.old.layer.table.places (G.plan self.old.layer.below)) basis temperatures.now majorant.now brackets.old) }
+        ensures study { Becomes self.old self.new (unless_refused (certificate_check (pin_plan self.old.layer.table.places (G.plan self.old.layer.below)) basis temperatures.now majorant.now brackets.old) (standing_of self.old) (standing state (open_count (pin_plan self.old.layer.table.places (G.plan self.old.layer.below)) self.old.tolerance.width (written (pin_plan self.old.layer.table.places (G.plan self.old.layer.below)) basis temperatures.now majorant.now brackets.old)))) }
     {
         self.lay_out();
         let (rest, margin) = certify(shape, &self.rows, temperatures, majorant, brackets, basis)?;
@@ -73,9 +73,9 @@ impl<G: Ground> Study<G> {
         majorant: &[Majorant],
         brackets: &mut [BracketRow],
     ) -> Result<Certificate, Refusal>
-        ensures answer { answer_of result ≡ certify_answer (pin_plan self.old.layer.pins.places (G.plan self.old.layer.below)) self.old.tolerance.width self.old.state temperatures.now majorant.now brackets.old }
-        ensures grid { brackets.new ≡ certify_grid (pin_plan self.old.layer.pins.places (G.plan self.old.layer.below)) self.old.state temperatures.now majorant.now brackets.old }
-        ensures study { Becomes self.old self.new (certify_standing (pin_plan self.old.layer.pins.places (G.plan self.old.layer.below)) self.old.tolerance.width (standing_of self.old) temperatures.now majorant.now brackets.old) }
+        ensures answer { answer_of result ≡ certify_answer (pin_plan self.old.layer.table.places (G.plan self.old.layer.below)) self.old.tolerance.width self.old.state temperatures.now majorant.now brackets.old }
+        ensures grid { brackets.new ≡ certify_grid (pin_plan self.old.layer.table.places (G.plan self.old.layer.below)) self.old.state temperatures.now majorant.now brackets.old }
+        ensures study { Becomes self.old self.new (certify_standing (pin_plan self.old.layer.table.places (G.plan self.old.layer.below)) self.old.tolerance.width (standing_of self.old) temperatures.now majorant.now brackets.old) }
     {
         self.sized(temperatures.len())?;
         self.sized(majorant.len())?;
@@ -92,10 +92,10 @@ impl<G: Ground> Study<G> {
         most: usize,
         state: State,
     ) -> Result<(usize, usize), WalkFault>
-        requires { Fits shape (pin_plan self.old.layer.pins.places (G.plan self.old.layer.below)) (length brackets.old) }
-        ensures answer { walk_answer_of result ≡ answer (at_first (tighten_run (pin_plan self.old.layer.pins.places (G.plan self.old.layer.below)) most brackets.old).stopped (fault Walk 9)) (counts_of (tighten_run (pin_plan self.old.layer.pins.places (G.plan self.old.layer.below)) most brackets.old)) }
-        ensures grid { brackets.new ≡ (tighten_run (pin_plan self.old.layer.pins.places (G.plan self.old.layer.below)) most brackets.old).grid }
-        ensures study { Becomes self.old self.new (standing state (open_count (pin_plan self.old.layer.pins.places (G.plan self.old.layer.below)) self.old.tolerance.width (tighten_run (pin_plan self.old.layer.pins.places (G.plan self.old.layer.below)) most brackets.old).grid)) }
+        requires { Fits shape (pin_plan self.old.layer.table.places (G.plan self.old.layer.below)) (length brackets.old) }
+        ensures answer { walk_answer_of result ≡ answer (at_first (tighten_run (pin_plan self.old.layer.table.places (G.plan self.old.layer.below)) most brackets.old).stopped (fault Walk 9)) (counts_of (tighten_run (pin_plan self.old.layer.table.places (G.plan self.old.layer.below)) most brackets.old)) }
+        ensures grid { brackets.new ≡ (tighten_run (pin_plan self.old.layer.table.places (G.plan self.old.layer.below)) most brackets.old).grid }
+        ensures study { Becomes self.old self.new (standing state (open_count (pin_plan self.old.layer.table.places (G.plan self.old.layer.below)) self.old.tolerance.width (tighten_run (pin_plan self.old.layer.table.places (G.plan self.old.layer.below)) most brackets.old).grid)) }
     {
         self.lay_out();
         let ran = tighten_laid(shape, &self.rows, brackets, most);
@@ -111,9 +111,9 @@ impl<G: Ground> Study<G> {
         brackets: &mut [BracketRow],
         walks: i64,
     ) -> Result<(usize, usize), Refusal>
-        ensures answer { answer_of result ≡ tighten_answer (pin_plan self.old.layer.pins.places (G.plan self.old.layer.below)) self.old.state brackets.old walks }
-        ensures grid { brackets.new ≡ tighten_grid (pin_plan self.old.layer.pins.places (G.plan self.old.layer.below)) self.old.state brackets.old walks }
-        ensures study { Becomes self.old self.new (tighten_standing (pin_plan self.old.layer.pins.places (G.plan self.old.layer.below)) self.old.tolerance.width (standing_of self.old) brackets.old walks) }
+        ensures answer { answer_of result ≡ tighten_answer (pin_plan self.old.layer.table.places (G.plan self.old.layer.below)) self.old.state brackets.old walks }
+        ensures grid { brackets.new ≡ tighten_grid (pin_plan self.old.layer.table.places (G.plan self.old.layer.below)) self.old.state brackets.old walks }
+        ensures study { Becomes self.old self.new (tighten_standing (pin_plan self.old.layer.table.places (G.plan self.old.layer.below)) self.old.tolerance.width (standing_of self.old) brackets.old walks) }
     {
         let shape = self.sized(brackets.len())?;
         let (state, _) = meets(self.state, Event::Tightening)?;
@@ -124,7 +124,7 @@ impl<G: Ground> Study<G> {
 
     // The bracket of a free cell, while brackets are proved.
     pub fn bracket(&self, brackets: &[BracketRow], cell: usize) -> Result<Bracket, Refusal>
-        ensures { MatchResult result (λ b. (ask_check (pin_plan self.now.layer.pins.places (G.plan self.now.layer.below)) self.now.state (length brackets.now) cell ≡ clear) × (plain b ≡ brackets_of brackets.now cell)) (λ e. ask_check (pin_plan self.now.layer.pins.places (G.plan self.now.layer.below)) self.now.state (length brackets.now) cell ≡ refuse (fault_of e)) }
+        ensures { MatchResult result (λ b. (ask_check (pin_plan self.now.layer.table.places (G.plan self.now.layer.below)) self.now.state (length brackets.now) cell ≡ clear) × (plain b ≡ brackets_of brackets.now cell)) (λ e. ask_check (pin_plan self.now.layer.table.places (G.plan self.now.layer.below)) self.now.state (length brackets.now) cell ≡ refuse (fault_of e)) }
     {
         self.sized(brackets.len())?;
         match self.state {
@@ -137,12 +137,12 @@ impl<G: Ground> Study<G> {
         if !self.is_free(cell) {
             return Err(Refusal::NotFree(cell));
         }
-        Ok(brackets[cell].bracket())
+        Ok(Bracket::from(brackets[cell]))
     }
 
     // Holds a free cell at a temperature. What was proved is proved no more.
     pub fn pin(&mut self, cell: usize, temperature: i64) -> Result<(), Refusal>
-        ensures answer { answer_of result ≡ answer (pin_check (G.plan self.old.layer.below) self.old.layer.pins.places cell temperature) tt }
+        ensures answer { answer_of result ≡ answer (pin_check (G.plan self.old.layer.below) self.old.layer.table.places cell temperature) tt }
         ensures study { Repinned self.old self.new (pin_leaves (G.plan self.old.layer.below) (pinning_of self.old) cell temperature) }
     {
         let (state, _) = meets(self.state, Event::Pin)?;
@@ -153,7 +153,7 @@ impl<G: Ground> Study<G> {
 
     // Frees a pinned cell again. What was proved is proved no more.
     pub fn release(&mut self, cell: usize) -> Result<(), Refusal>
-        ensures answer { answer_of result ≡ answer (release_check (G.plan self.old.layer.below) self.old.layer.pins.places cell) tt }
+        ensures answer { answer_of result ≡ answer (release_check (G.plan self.old.layer.below) self.old.layer.table.places cell) tt }
         ensures study { Repinned self.old self.new (release_leaves (G.plan self.old.layer.below) (pinning_of self.old) cell) }
     {
         let (state, _) = meets(self.state, Event::Release)?;
@@ -166,7 +166,7 @@ impl<G: Ground> Study<G> {
     fn begin(&mut self, state: State)
         ensures layer { self.new.layer ≡ self.old.layer }
         ensures tolerance { self.new.tolerance ≡ self.old.tolerance }
-        ensures stands { standing_of self.new ≡ standing state (free_count (pin_plan self.old.layer.pins.places (G.plan self.old.layer.below))) }
+        ensures stands { standing_of self.new ≡ standing state (free_count (pin_plan self.old.layer.table.places (G.plan self.old.layer.below))) }
     {
         self.state = state;
         self.open = free_cells(&self.layer);

@@ -25,7 +25,7 @@ impl<G: Ground> Study<G> {
     // A study that is unproved and has no pin. It takes its memory here and nowhere else; where there
     // is none, the ground comes back.
     pub fn new(heap: Global, ground: G, tolerance: Tolerance) -> Result<Study<G>, AllocFailed<G>>
-        ensures { MatchResult result (λ s. Fresh s ground tolerance × (s.«open» ≡ free_count (pin_plan s.layer.pins.places (G.plan ground)))) (λ e. e.value ≡ ground) }
+        ensures { MatchResult result (λ s. Fresh s ground tolerance × (s.«open» ≡ free_count (pin_plan s.layer.table.places (G.plan ground)))) (λ e. e.value ≡ ground) }
     {
         let Ok(records) = Vec::with_capacity(heap, 4096) else {
             return Err(AllocFailed { value: ground });
@@ -54,7 +54,7 @@ impl<G: Ground> Study<G> {
 
     // Whether a cell is free in the study's equations.
     pub fn is_free(&self, cell: usize) -> bool
-        ensures { result ≡ is_free_at (pin_plan self.now.layer.pins.places (G.plan self.now.layer.below)) cell }
+        ensures { result ≡ is_free_at (pin_plan self.now.layer.table.places (G.plan self.now.layer.below)) cell }
     {
         match self.layer.record(cell) {
             Record::Free(_) => true,
@@ -73,7 +73,7 @@ impl<G: Ground> Study<G> {
     // What a run with a number of its own is checked for first: its grid's length, that number and
     // its walks.
     fn ready(&self, length: usize, number: i64, most: i64, walks: i64) -> Result<Shape, Refusal>
-        ensures { MatchResult result (λ s. Ready s (pin_plan self.now.layer.pins.places (G.plan self.now.layer.below)) length (limited number (pos 1) most) walks) (λ e. run_check (pin_plan self.now.layer.pins.places (G.plan self.now.layer.below)) length (limited number (pos 1) most) walks ≡ refuse (fault_of e)) }
+        ensures { MatchResult result (λ s. Ready s (pin_plan self.now.layer.table.places (G.plan self.now.layer.below)) length (limited number (pos 1) most) walks) (λ e. run_check (pin_plan self.now.layer.table.places (G.plan self.now.layer.below)) length (limited number (pos 1) most) walks ≡ refuse (fault_of e)) }
     {
         let shape = self.sized(length)?;
         within(1, number, 1, most)?;
@@ -83,7 +83,7 @@ impl<G: Ground> Study<G> {
 
     // Lays out the equations as they now stand.
     pub(crate) fn lay_out(&mut self)
-        ensures stands { Stands (pin_plan self.old.layer.pins.places (G.plan self.old.layer.below)) self.new.rows.items }
+        ensures stands { Stands (pin_plan self.old.layer.table.places (G.plan self.old.layer.below)) self.new.rows.items }
         ensures same { Same self.old self.new }
     {
         lay(&self.layer, &mut self.records, &mut self.rows);
@@ -97,8 +97,8 @@ impl<G: Ground> Study<G> {
         factor: i64,
         walks: i64,
     ) -> Result<(usize, usize), Refusal>
-        ensures answer { answer_of result ≡ relax_answer (pin_plan self.old.layer.pins.places (G.plan self.old.layer.below)) grid.old factor walks }
-        ensures grid { grid.new ≡ relax_grid (pin_plan self.old.layer.pins.places (G.plan self.old.layer.below)) grid.old factor walks }
+        ensures answer { answer_of result ≡ relax_answer (pin_plan self.old.layer.table.places (G.plan self.old.layer.below)) grid.old factor walks }
+        ensures grid { grid.new ≡ relax_grid (pin_plan self.old.layer.table.places (G.plan self.old.layer.below)) grid.old factor walks }
         ensures study { Same self.old self.new }
     {
         let shape = self.ready(grid.len(), factor, 199, walks)?;
@@ -113,8 +113,8 @@ impl<G: Ground> Study<G> {
         margin: i64,
         walks: i64,
     ) -> Result<Raised, Refusal>
-        ensures answer { answer_of result ≡ raise_answer (pin_plan self.old.layer.pins.places (G.plan self.old.layer.below)) grid.old margin walks }
-        ensures grid { grid.new ≡ raise_grid (pin_plan self.old.layer.pins.places (G.plan self.old.layer.below)) grid.old margin walks }
+        ensures answer { answer_of result ≡ raise_answer (pin_plan self.old.layer.table.places (G.plan self.old.layer.below)) grid.old margin walks }
+        ensures grid { grid.new ≡ raise_grid (pin_plan self.old.layer.table.places (G.plan self.old.layer.below)) grid.old margin walks }
         ensures study { Same self.old self.new }
     {
         let shape = self.ready(grid.len(), margin, 10_000, walks)?;

@@ -13,7 +13,7 @@ use Rattle.study.proofs.types.Study.accept.Goals as goal
 
 pub certify-requires : goal.certify-requires
 certify-requires g c =
-    let p = pin_plan c.args.self.now.layer.pins.places (g.G.Ground.plan c.args.self.now.layer.below) in
+    let p = pin_plan c.args.self.now.layer.table.places (g.G.Ground.plan c.args.self.now.layer.below) in
     let st : Stands p c.deref.result.now = subst (Stands p) (sym c.deref.ensures.value) c.lay_out.ensures.stands in
     record {
       temperatures = record { plan = p; stands = st; wide = c.requires.temperatures.wide; high = c.requires.temperatures.high; count = c.requires.temperatures.count };
@@ -24,7 +24,7 @@ certify-requires g c =
 pub returns-in_err-rest : goal.returns-in_err-rest
 returns-in_err-rest g c =
     let q = err_from_is_err_and c.from_residual.result c.from_residual.ensures.1 in
-    let p = pin_plan c.args.self.now.layer.pins.places (g.G.Ground.plan c.args.self.now.layer.below) in
+    let p = pin_plan c.args.self.now.layer.table.places (g.G.Ground.plan c.args.self.now.layer.below) in
     let us = c.args.temperatures.now in
     let ws = c.args.majorant.now in
     let bs = c.args.brackets.now in
@@ -44,7 +44,7 @@ returns-in_err-rest g c =
 
 pub returns : goal.returns
 returns g c =
-    let p = pin_plan c.args.self.now.layer.pins.places (g.G.Ground.plan c.args.self.now.layer.below) in
+    let p = pin_plan c.args.self.now.layer.table.places (g.G.Ground.plan c.args.self.now.layer.below) in
     let us = c.args.temperatures.now in
     let ws = c.args.majorant.now in
     let bs = c.args.brackets.now in

@@ -5,7 +5,7 @@ use Rattle.study.proofs.types.Study.certify.Goals as goal
 
 pub returns : goal.returns
 returns g c =
-    let p = pin_plan c.args.self.now.layer.pins.places (g.G.Ground.plan c.args.self.now.layer.below) in
+    let p = pin_plan c.args.self.now.layer.table.places (g.G.Ground.plan c.args.self.now.layer.below) in
     let s = c.args.self.now.state in
     let t = c.args.self.now.tolerance.width in
     let us = c.args.temperatures.now in

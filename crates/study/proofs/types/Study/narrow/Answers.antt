@@ -6,7 +6,7 @@ use Rattle.study.proofs.types.Study.narrow.Goals as goal
 
 pub tighten_laid-ran-requires : goal.tighten_laid-ran-requires
 tighten_laid-ran-requires g c =
-    let p = pin_plan c.args.self.now.layer.pins.places (g.G.Ground.plan c.args.self.now.layer.below) in
+    let p = pin_plan c.args.self.now.layer.table.places (g.G.Ground.plan c.args.self.now.layer.below) in
     record {
       plan = p;
       stands = subst (Stands p) (sym c.deref.ensures.value) c.lay_out.ensures.stands;
@@ -17,7 +17,7 @@ tighten_laid-ran-requires g c =
 
 pub returns : goal.returns
 returns g c =
-    let p = pin_plan c.args.self.now.layer.pins.places (g.G.Ground.plan c.args.self.now.layer.below) in
+    let p = pin_plan c.args.self.now.layer.table.places (g.G.Ground.plan c.args.self.now.layer.below) in
     let stands : Stands p c.deref.result.now = subst (Stands p) (sym c.deref.ensures.value) c.lay_out.ensures.stands in
     let again : Stands p c.deref-2.result.now = subst (Stands p) (sym c.deref-2.ensures.value) c.lay_out.ensures.stands in
     let grid = c.tighten_laid-ran.ensures.grid p stands in

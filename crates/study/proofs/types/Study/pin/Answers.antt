@@ -18,7 +18,7 @@ returns-in_err-pin g c =
     let x = pinning_of s in
     let pins = altered x.pins c.args.cell (Some c.args.temperature) in
     let n = x.count + 1 in
-    let k = pin_check ground s.layer.pins.places c.args.cell c.args.temperature in
+    let k = pin_check ground s.layer.table.places c.args.cell c.args.temperature in
     record {
       answer = rw (q.1, q.2) (simp to_z-of_z at c.in_err-pin.ensures.answer);
       study = record {
@@ -38,16 +38,16 @@ returns g c =
     let x = pinning_of s in
     let pins = altered x.pins c.args.cell (Some c.args.temperature) in
     let n = x.count + 1 in
-    let k = pin_check ground s.layer.pins.places c.args.cell c.args.temperature in
+    let k = pin_check ground s.layer.table.places c.args.cell c.args.temperature in
     record {
       answer = (let a = simp to_z-of_z at c.in_ok-pin.ensures.answer in a);
       study = record {
         below = ap (λ l. l.below) c.begin.ensures.layer ∙ c.pin.ensures.kept;
         tolerance = c.begin.ensures.tolerance;
-        pins = λ i. ap (λ l. pinned_at l.pins.places i) c.begin.ensures.layer ∙ (let a = simp to_z-of_z at (c.pin.ensures.pins i) in a) ∙ unless_part (λ y. y.pins i) k x (anew ground pins n);
-        count = ap (λ l. used l.pins.places) c.begin.ensures.layer ∙ (let a = simp to_z-of_z at c.pin.ensures.count in a) ∙ unless_part (λ y. y.count) k x (anew ground pins n);
+        pins = λ i. ap (λ l. pinned_at l.table.places i) c.begin.ensures.layer ∙ (let a = simp to_z-of_z at (c.pin.ensures.pins i) in a) ∙ unless_part (λ y. y.pins i) k x (anew ground pins n);
+        count = ap (λ l. used l.table.places) c.begin.ensures.layer ∙ (let a = simp to_z-of_z at c.pin.ensures.count in a) ∙ unless_part (λ y. y.count) k x (anew ground pins n);
         stands = c.begin.ensures.stands
-            ∙ stands-anew k x ground pins n c.in_ok-state.state (g.G.Ground.plan c.pin.new.self.below) (pinned_at c.pin.new.self.pins.places)
+            ∙ stands-anew k x ground pins n c.in_ok-state.state (g.G.Ground.plan c.pin.new.self.below) (pinned_at c.pin.new.self.table.places)
             (simp to_z-of_z at c.in_ok-pin.ensures.answer) c.in_ok-state.ensures.1 (ap g.G.Ground.plan c.pin.ensures.kept) (λ i. simp to_z-of_z at (c.pin.ensures.pins i));
       };
     }

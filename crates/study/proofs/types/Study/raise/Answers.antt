@@ -10,7 +10,7 @@ use Rattle.study.proofs.types.Study.raise.Goals as goal
 pub returns-in_err-shape : goal.returns-in_err-shape
 returns-in_err-shape g c =
     let q = err_from_is_err_and c.from_residual.result c.from_residual.ensures.1 in
-    let p = pin_plan c.args.self.now.layer.pins.places (g.G.Ground.plan c.args.self.now.layer.below) in
+    let p = pin_plan c.args.self.now.layer.table.places (g.G.Ground.plan c.args.self.now.layer.below) in
     let f = c.ranges.margin in
     let w = c.ranges.walks in
     let e = simp to_z-of_z at c.in_err-shape.ensures in
@@ -23,7 +23,7 @@ returns-in_err-shape g c =
 
 pub raise_laid-requires : goal.raise_laid-requires
 raise_laid-requires g c =
-    let p = pin_plan c.args.self.now.layer.pins.places (g.G.Ground.plan c.args.self.now.layer.below) in
+    let p = pin_plan c.args.self.now.layer.table.places (g.G.Ground.plan c.args.self.now.layer.below) in
     let r = c.in_ok-shape.ensures in
     record {
       plan = p;
@@ -35,7 +35,7 @@ raise_laid-requires g c =
 
 pub returns : goal.returns
 returns g c =
-    let p = pin_plan c.args.self.now.layer.pins.places (g.G.Ground.plan c.args.self.now.layer.below) in
+    let p = pin_plan c.args.self.now.layer.table.places (g.G.Ground.plan c.args.self.now.layer.below) in
     let stands : Stands p c.deref.result.now = subst (Stands p) (sym c.deref.ensures.value) c.lay_out.ensures.stands in
     let f = c.ranges.margin in
     let w = c.ranges.walks in

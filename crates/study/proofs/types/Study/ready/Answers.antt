@@ -8,13 +8,13 @@ use Rattle.study.proofs.types.Study.ready.Goals as goal
 pub returns-in_err-shape : goal.returns-in_err-shape
 returns-in_err-shape g c =
     let q = err_from_is_err_and c.from_residual.result c.from_residual.ensures.1 in
-    let p = pin_plan c.args.self.now.layer.pins.places (g.G.Ground.plan c.args.self.now.layer.below) in
+    let p = pin_plan c.args.self.now.layer.table.places (g.G.Ground.plan c.args.self.now.layer.below) in
     rw (q.1, q.2) (length-first p c.args.length c.args.number c.args.most c.args.walks (fault_of c.in_err-shape.field-0.0) c.in_err-shape.ensures)
 
 pub returns-in_err-within : goal.returns-in_err-within
 returns-in_err-within g c =
     let q = err_from_is_err_and c.from_residual-in_err-within.result c.from_residual-in_err-within.ensures.1 in
-    let p = pin_plan c.args.self.now.layer.pins.places (g.G.Ground.plan c.args.self.now.layer.below) in
+    let p = pin_plan c.args.self.now.layer.table.places (g.G.Ground.plan c.args.self.now.layer.below) in
     let f = c.ranges.number in
     let m = c.ranges.most in
     let o = simp to_z-of_z at c.in_err-within.ensures.1 in
@@ -23,7 +23,7 @@ returns-in_err-within g c =
 pub returns-in_err-within-2 : goal.returns-in_err-within-2
 returns-in_err-within-2 g c =
     let q = err_from_is_err_and c.from_residual-in_err-within-2.result c.from_residual-in_err-within-2.ensures.1 in
-    let p = pin_plan c.args.self.now.layer.pins.places (g.G.Ground.plan c.args.self.now.layer.below) in
+    let p = pin_plan c.args.self.now.layer.table.places (g.G.Ground.plan c.args.self.now.layer.below) in
     let f = c.ranges.number in
     let m = c.ranges.most in
     let w = c.ranges.walks in
@@ -33,7 +33,7 @@ returns-in_err-within-2 g c =
 
 pub returns : goal.returns
 returns g c =
-    let p = pin_plan c.args.self.now.layer.pins.places (g.G.Ground.plan c.args.self.now.layer.below) in
+    let p = pin_plan c.args.self.now.layer.table.places (g.G.Ground.plan c.args.self.now.layer.below) in
     let f = c.ranges.number in
     let m = c.ranges.most in
     let w = c.ranges.walks in

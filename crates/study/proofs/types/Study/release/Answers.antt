@@ -16,7 +16,7 @@ returns-in_err-release g c =
     let x = pinning_of s in
     let pins = altered x.pins c.args.cell None in
     let n = x.count - 1 in
-    let k = release_check ground s.layer.pins.places c.args.cell in
+    let k = release_check ground s.layer.table.places c.args.cell in
     record {
       answer = rw (q.1, q.2) c.in_err-release.ensures.answer;
       study = record {
@@ -35,16 +35,16 @@ returns g c =
     let x = pinning_of s in
     let pins = altered x.pins c.args.cell None in
     let n = x.count - 1 in
-    let k = release_check ground s.layer.pins.places c.args.cell in
+    let k = release_check ground s.layer.table.places c.args.cell in
     record {
       answer = c.in_ok-release.ensures.answer;
       study = record {
         below = ap (λ l. l.below) c.begin.ensures.layer ∙ c.release.ensures.kept;
         tolerance = c.begin.ensures.tolerance;
-        pins = λ i. ap (λ l. pinned_at l.pins.places i) c.begin.ensures.layer ∙ c.release.ensures.pins i ∙ unless_part (λ y. y.pins i) k x (anew ground pins n);
-        count = ap (λ l. used l.pins.places) c.begin.ensures.layer ∙ c.release.ensures.count ∙ unless_part (λ y. y.count) k x (anew ground pins n);
+        pins = λ i. ap (λ l. pinned_at l.table.places i) c.begin.ensures.layer ∙ c.release.ensures.pins i ∙ unless_part (λ y. y.pins i) k x (anew ground pins n);
+        count = ap (λ l. used l.table.places) c.begin.ensures.layer ∙ c.release.ensures.count ∙ unless_part (λ y. y.count) k x (anew ground pins n);
         stands = c.begin.ensures.stands
-            ∙ stands-anew k x ground pins n c.in_ok-state.state (g.G.Ground.plan c.release.new.self.below) (pinned_at c.release.new.self.pins.places)
+            ∙ stands-anew k x ground pins n c.in_ok-state.state (g.G.Ground.plan c.release.new.self.below) (pinned_at c.release.new.self.table.places)
             c.in_ok-release.ensures.answer c.in_ok-state.ensures.1 (ap g.G.Ground.plan c.release.ensures.kept) c.release.ensures.pins;
       };
     }

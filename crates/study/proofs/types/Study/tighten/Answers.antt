@@ -9,7 +9,7 @@ use Rattle.study.proofs.types.Study.tighten.Goals as goal
 pub returns-in_err-counts : goal.returns-in_err-counts
 returns-in_err-counts g c =
     let q = err_from_is_err_and c.from_residual-in_err-counts.result c.from_residual-in_err-counts.ensures.1 in
-    let p = pin_plan c.args.self.now.layer.pins.places (g.G.Ground.plan c.args.self.now.layer.below) in
+    let p = pin_plan c.args.self.now.layer.table.places (g.G.Ground.plan c.args.self.now.layer.below) in
     let s = c.args.self.now.state in
     let bs = c.args.brackets.now in
     let w = c.ranges.walks in
@@ -32,7 +32,7 @@ returns-in_err-counts g c =
 
 pub returns : goal.returns
 returns g c =
-    let p = pin_plan c.args.self.now.layer.pins.places (g.G.Ground.plan c.args.self.now.layer.below) in
+    let p = pin_plan c.args.self.now.layer.table.places (g.G.Ground.plan c.args.self.now.layer.below) in
     let s = c.args.self.now.state in
     let bs = c.args.brackets.now in
     let w = c.ranges.walks in
