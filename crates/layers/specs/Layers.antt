@@ -10,9 +10,9 @@ use Rattle.layers.specs.Tables.{lookup, used}
 use Rattle.layers.specs.declared.table.Entry.{Entry}
 use Rattle.layers.specs.declared.table.Loss.{Loss}
 
--- a plan with something laid on the listed cells
-abbrev pub laid_plan : {X : Type 0} → (Option X → Cell → Cell) → List (Option (Entry X)) → Plan → Plan
-laid_plan laying places p = plan_of p.wide p.high (λ i. laying (lookup places i) (at p i))
+-- a plan with something laid on its cells
+abbrev pub laid_plan : (ℕ → Cell → Cell) → Plan → Plan
+laid_plan laying p = plan_of p.wide p.high (λ i. laying i (at p i))
 
 -- The pin layer: the ground below with the listed cells held at their temperatures.
 abbrev pub Pins : Type 0

@@ -1,14 +1,13 @@
-ghost use Rattle.std.specs.Prelude.{◌≡◌, Some, None, Option};
+ghost use Rattle.std.specs.Prelude.{◌≡◌, ℕ};
 ghost use Rattle.section.specs.Plan.{Cell, meant};
 
 use section::types::Record;
 
-// What a layer lays on a cell of the ground below.
-pub trait Laid: Copy {
-    ghost laying: { Option Self → Cell → Cell };
+// A table of what is laid over the cells of a ground.
+pub trait Laid {
+    ghost laying: { Self → ℕ → Cell → Cell };
 
-    fn lay_over(self, below: Record) -> Record
-        ensures { meant result ≡ laying (Some self) (meant below) };
-
-    ghost clear: { (c : Cell) → laying None c ≡ c };
+    // The record at an index, given what the ground below has there.
+    fn lay_over(&self, index: usize, below: Record) -> Record
+        ensures { meant result ≡ laying self.now index (meant below) };
 }

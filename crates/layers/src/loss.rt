@@ -1,30 +1,27 @@
-ghost use Rattle.std.specs.Prelude.{◌≡◌, ℕ, ◌+◌, is_some, if◌then◌else◌, Some, None, unsigned_abs, refl};
-ghost use Rattle.std.specs.Option.{option_map};
+ghost use Rattle.std.specs.Prelude.{◌≡◌, ℕ, ◌+◌, is_some, if◌then◌else◌, Some, None, unsigned_abs};
 ghost use Rattle.refusal.specs.Refusals.{answer, answer_of, unless_refused};
 ghost use Rattle.layers.specs.Layers.{altered, losing, loss_at, loss_check};
 ghost use Rattle.layers.specs.Tables.{used};
 
 use crate::laid::Laid;
 use crate::layer::LossLayer;
-use crate::table::Loss;
+use crate::table::{Loss, Table};
 use ground::ground::Ground;
 use refusal::types::Refusal;
 use section::limits::within;
 use section::types::{FreeRecord, Record};
 
-impl Laid for Loss {
-    ghost laying = { λ o c. losing (option_map (λ l. l.weight) o) c };
+impl Laid for Table<Loss, 16> {
+    ghost laying = { λ t i c. losing (loss_at t.places i) c };
 
-    ghost clear = { λ _. refl };
-
-    fn lay_over(self, below: Record) -> Record {
-        match below {
-            Record::Free(c) => Record::Free(FreeRecord {
+    fn lay_over(&self, index: usize, below: Record) -> Record {
+        match (self.find(index), below) {
+            (Some(loss), Record::Free(c)) => Record::Free(FreeRecord {
                 north: c.north,
                 west: c.west,
                 east: c.east,
                 south: c.south,
-                loss: self.weight,
+                loss: loss.weight,
                 heat: c.heat,
             }),
             _ => below,

@@ -1,5 +1,4 @@
-ghost use Rattle.std.specs.Prelude.{◌≡◌, ℕ, ◌+◌, ◌-◌, false, is_some, Some, None, MatchResult, nat_le, refl};
-ghost use Rattle.std.specs.Option.{option_map};
+ghost use Rattle.std.specs.Prelude.{◌≡◌, ℕ, ◌+◌, ◌-◌, false, is_some, Some, None, MatchResult, nat_le};
 ghost use Rattle.refusal.specs.Refusals.{refuse, when, fault, fault_of, answer, answer_of, unless_refused};
 ghost use Rattle.refusal.specs.declared.types.Level.TheVariants.{Table as AtTable};
 ghost use Rattle.layers.specs.Layers.{altered, over, pin_check, pinned_at, release_check};
@@ -7,18 +6,17 @@ ghost use Rattle.layers.specs.Tables.{lookup, used};
 
 use crate::laid::Laid;
 use crate::layer::PinLayer;
+use crate::table::Table;
 use ground::ground::Ground;
 use refusal::types::Refusal;
 use section::limits::held_at;
 use section::types::{HeldRecord, Record};
 
-impl Laid for HeldRecord {
-    ghost laying = { λ o c. over (option_map (λ h. h.temperature) o) c };
+impl Laid for Table<HeldRecord, 32> {
+    ghost laying = { λ t i c. over (pinned_at t.places i) c };
 
-    ghost clear = { λ _. refl };
-
-    fn lay_over(self, _below: Record) -> Record {
-        Record::Held(self)
+    fn lay_over(&self, index: usize, below: Record) -> Record {
+        self.find(index).map_or(below, Record::Held)
     }
 }
 

@@ -44,8 +44,8 @@ returns g c =
       wide = c.in_ok-shape.ensures.1.wide;
       high = c.in_ok-shape.ensures.1.high;
       count = c.in_ok-shape.ensures.1.count;
-      least = o.1;
-      most = o.2;
-      some = t.1;
-      few = t.2;
+      least = o.1.0;
+      most = o.1.1;
+      some = t.1.0;
+      few = t.1.1;
     }
