@@ -15,6 +15,7 @@ use measure::measure::Measure;
 use refusal::types::Refusal;
 use scan::first_failing;
 use section::rows::{BracketRow, Majorant, Temperature};
+use section::types::Bracket;
 use stencil::laid::LaidOut;
 
 // The first free cell whose certified bracket has nothing in common with a proved one is refused.
@@ -38,7 +39,7 @@ fn meeting<G: Ground>(
         laid.is_free(cell)
             && crosses(shared(
                 certified_at(laid, temperatures, majorant, measure, cell),
-                brackets[cell].bracket(),
+                Bracket::from(brackets[cell]),
             ))
     };
     match basis {

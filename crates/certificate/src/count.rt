@@ -5,13 +5,13 @@ ghost use Rattle.certificate.specs.Counting.{open_count, width};
 
 use ground::ground::Ground;
 use section::rows::BracketRow;
-use section::types::Tolerance;
+use section::types::{Bracket, Tolerance};
 use stencil::laid::LaidOut;
 
 fn is_open(row: BracketRow, tolerance: Tolerance) -> bool
     ensures { result ≡ int_lt tolerance.width (width (row_bracket row)) }
 {
-    let bracket = row.bracket();
+    let bracket = Bracket::from(row);
     bracket.hi - bracket.lo > tolerance.width
 }
 

@@ -33,7 +33,7 @@ pub(crate) fn crosses(bracket: BracketRow) -> bool
 pub(crate) fn settled(basis: Basis, own: BracketRow, row: BracketRow) -> BracketRow
     ensures { result ≡ settled_of basis own row }
 {
-    let old = row.bracket();
+    let old = Bracket::from(row);
     let new = match basis {
         Basis::Alone => own,
         Basis::Joined => shared(own, old),

@@ -1,5 +1,6 @@
-ghost use Rattle.std.specs.Prelude.{◌≡◌};
-ghost use Rattle.section.specs.Plan.{Plan, meant, at, free_count};
+ghost use Rattle.std.specs.Prelude.{◌≡◌, count_by};
+ghost use Rattle.std.specs.List.{range_with_len};
+ghost use Rattle.section.specs.Plan.{Plan, meant, at, free_count, is_free_at};
 
 use section::types::{Record, Shape};
 
@@ -20,11 +21,14 @@ pub trait Ground {
 pub fn free_cells<G: Ground>(ground: &G) -> usize
     ensures { result ≡ free_count (G.plan ground.now) }
 {
-    let mut count = 0;
-    for index in 0..ground.shape().cells() {
-        if let Record::Free(_) = ground.record(index) {
-            count += 1;
-        }
-    }
-    count
+    free_among(ground, ground.shape().cells())
+}
+
+// How many of the first cells are free.
+fn free_among<G: Ground>(ground: &G, cells: usize) -> usize
+    ensures { result ≡ count_by (is_free_at (G.plan ground.now)) (range_with_len 0 cells) }
+{
+    (0..cells)
+        .filter(|index| matches!(ground.record(*index), Record::Free(_)))
+        .count()
 }

@@ -25,11 +25,7 @@ impl Listed {
     fn row(&self, index: usize) -> Row
         ensures { result ≡ slice_index_or self.now.rows.items index Row.Void }
     {
-        if index < self.rows.len() {
-            self.rows[index]
-        } else {
-            Row::Void
-        }
+        self.rows.get(index).copied().unwrap_or(Row::Void)
     }
 }
 
@@ -42,7 +38,7 @@ impl Ground for Listed {
 
     fn record(&self, index: usize) -> Record {
         if index < self.shape.cells() {
-            self.row(index).record()
+            Record::from(self.row(index))
         } else {
             Record::Void
         }

@@ -1,6 +1,6 @@
-ghost use Rattle.std.specs.Prelude.{◌≡◌, ◌*◌, ◌<◌, ◌≤◌, pos, negsuc, ◌*ℤ◌, ◌≤ℤ◌, MatchResult};
+ghost use Rattle.std.specs.Prelude.{◌≡◌, ◌*◌, ◌<◌, ◌≤◌, pos, negsuc, ◌*ℤ◌, ◌≤ℤ◌};
 ghost use Rattle.section.specs.Plan.{meant, plan_of};
-ghost use Rattle.refusal.specs.Refusals.{clear, refuse, fault_of};
+ghost use Rattle.refusal.specs.Refusals.{Checked};
 ghost use Rattle.ground.specs.Grounds.{ring_check, ring_cell, ring_free};
 
 use crate::ground::Ground;
@@ -23,7 +23,7 @@ pub struct Ring {
 
 impl Ring {
     pub fn new(shape: Shape, top: i64, bottom: i64, last: i64, q: i64) -> Result<Ring, Refusal>
-        ensures { MatchResult result (λ s. (ring_check top bottom last q ≡ clear) × (s.shape.wide ≡ shape.wide) × (s.shape.high ≡ shape.high) × (s.top.temperature ≡ top) × (s.bottom.temperature ≡ bottom) × (s.last.temperature ≡ last) × (s.q ≡ q)) (λ e. ring_check top bottom last q ≡ refuse (fault_of e)) }
+        ensures { Checked result (ring_check top bottom last q) (λ s. (s.shape.wide ≡ shape.wide) × (s.shape.high ≡ shape.high) × (s.top.temperature ≡ top) × (s.bottom.temperature ≡ bottom) × (s.last.temperature ≡ last) × (s.q ≡ q)) }
     {
         let top = held_at(1, top)?;
         let bottom = held_at(2, bottom)?;

@@ -1,6 +1,6 @@
-ghost use Rattle.std.specs.Prelude.{◌≡◌, ◌*◌, ◌<◌, pos, negsuc, ◌≤ℤ◌, MatchResult};
+ghost use Rattle.std.specs.Prelude.{◌≡◌, ◌*◌, ◌<◌, pos, negsuc, ◌≤ℤ◌};
 ghost use Rattle.section.specs.Plan.{meant, plan_of};
-ghost use Rattle.refusal.specs.Refusals.{clear, refuse, fault_of};
+ghost use Rattle.refusal.specs.Refusals.{Checked};
 ghost use Rattle.ground.specs.Grounds.{slab_check, slab_cell};
 
 use crate::ground::Ground;
@@ -30,7 +30,7 @@ impl Slab {
         last: i64,
         heat: i64,
     ) -> Result<Slab, Refusal>
-        ensures { MatchResult result (λ s. (slab_check top bottom first last heat ≡ clear) × (s.shape.wide ≡ shape.wide) × (s.shape.high ≡ shape.high) × (s.top.temperature ≡ top) × (s.bottom.temperature ≡ bottom) × (s.first.temperature ≡ first) × (s.last.temperature ≡ last) × (s.heat ≡ heat)) (λ e. slab_check top bottom first last heat ≡ refuse (fault_of e)) }
+        ensures { Checked result (slab_check top bottom first last heat) (λ s. (s.shape.wide ≡ shape.wide) × (s.shape.high ≡ shape.high) × (s.top.temperature ≡ top) × (s.bottom.temperature ≡ bottom) × (s.first.temperature ≡ first) × (s.last.temperature ≡ last) × (s.heat ≡ heat)) }
     {
         let top = held_at(1, top)?;
         let bottom = held_at(2, bottom)?;

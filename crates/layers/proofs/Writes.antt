@@ -141,7 +141,7 @@ used-most (None ∷ places) = omega (arith, used-most places)
 used-most (Some x ∷ places) = omega (arith, used-most places)
 
 -- where a cell is to be listed: its place lists it, or it is listed nowhere and its place is empty
-abbrev Suits : {X : Type 0} → List (Option (Entry X)) → ℕ → ℕ → Type 0
+abbrev pub Suits : {X : Type 0} → List (Option (Entry X)) → ℕ → ℕ → Type 0
 Suits places k cell = (listing (get_or places k None) ≡ Some cell) ⊎ ((listing (get_or places k None) ≡ None) × (lookup places cell ≡ None))
 
 module _ {X : Type 0} (n : ℕ) (places : List (Option (Entry X))) (k : ℕ) (new : Entry X) (long : length places ≡ n) (once : apart places ≡ true) (l : k < length places) where

@@ -10,6 +10,10 @@ use Rattle.layers.specs.Tables.{lookup, used}
 use Rattle.layers.specs.declared.table.Entry.{Entry}
 use Rattle.layers.specs.declared.table.Loss.{Loss}
 
+-- a plan with something laid on its cells
+abbrev pub laid_plan : (ℕ → Cell → Cell) → Plan → Plan
+laid_plan laying p = plan_of p.wide p.high (λ i. laying i (at p i))
+
 -- The pin layer: the ground below with the listed cells held at their temperatures.
 abbrev pub Pins : Type 0
 Pins = List (Option (Entry HeldRecord))
@@ -26,7 +30,7 @@ abbrev pub holding : Plan → (ℕ → Option ℤ) → Plan
 holding p pins = plan_of p.wide p.high (λ i. over (pins i) (at p i))
 
 abbrev pub pin_plan : Pins → Plan → Plan
-pin_plan places p = plan_of p.wide p.high (λ i. over (pinned_at places i) (at p i))
+pin_plan places p = holding p (pinned_at places)
 
 -- the pins, and how many there are
 abbrev pub pin_checks : Plan → (ℕ → Option ℤ) → ℕ → ℕ → ℤ → Check
@@ -38,12 +42,7 @@ pin_checks p pins count i t =
     then when (nat_le 32 count) (fault Table 5 i)
 
 abbrev pub pin_check : Plan → Pins → ℕ → ℤ → Check
-pin_check p places i t =
-    when (nat_le (size p) i) (fault Call 1 i)
-    then numbers 2 (temperature t ∷ [])
-    then when (is_some (pinned_at places i)) (fault Table 3 i)
-    then when (not (is_free_at p i)) (fault Call 2 i)
-    then when (nat_le 32 (used places)) (fault Table 5 i)
+pin_check p places i t = pin_checks p (pinned_at places) (used places) i t
 
 abbrev pub release_checks : Plan → (ℕ → Option ℤ) → ℕ → Check
 release_checks p pins i =
@@ -51,9 +50,7 @@ release_checks p pins i =
     then when (not (is_some (pins i))) (fault Table 4 i)
 
 abbrev pub release_check : Plan → Pins → ℕ → Check
-release_check p places i =
-    when (nat_le (size p) i) (fault Call 1 i)
-    then when (not (is_some (pinned_at places i))) (fault Table 4 i)
+release_check p places i = release_checks p (pinned_at places) i
 
 -- The loss layer: the ground below with the loss weights of the listed free cells replaced.
 abbrev pub Losses : Type 0

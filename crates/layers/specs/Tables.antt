@@ -1,5 +1,5 @@
 -- A table of a layer: places that each list a cell with what is laid on it, or are empty.
-use Rattle.std.specs.Prelude.{ℕ, ◌+◌, Bool, true, cond, not, ◌&&◌, List, [], ◌∷◌, is_some, Some, None, Option, ◌==◌}
+use Rattle.std.specs.Prelude.{ℕ, ◌+◌, Bool, true, false, cond, not, ◌&&◌, List, [], ◌∷◌, is_some, Some, None, Option, ◌==◌}
 use Rattle.layers.specs.declared.table.Entry.{Entry}
 
 -- what is listed for a cell
@@ -24,3 +24,8 @@ apart (Some e ∷ places) = not (is_some (lookup places e.cell)) && apart places
 abbrev pub listing : {X : Type 0} → Option (Entry X) → Option ℕ
 listing None = None
 listing (Some e) = Some e.cell
+
+-- whether a place lists the cell
+abbrev pub lists : {X : Type 0} → Option (Entry X) → ℕ → Bool
+lists None cell = false
+lists (Some e) cell = e.cell == cell

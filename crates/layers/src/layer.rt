@@ -1,16 +1,48 @@
-use crate::table::{Loss, Table};
-use section::types::HeldRecord;
+ghost use Rattle.std.specs.Prelude.{◌≡◌};
+ghost use Rattle.layers.specs.Layers.{laid_plan};
 
-// The ground below with some cells held at temperatures of their own.
+use crate::laid::Laid;
+use crate::table::{Loss, Table};
+use ground::ground::Ground;
+use section::types::{HeldRecord, Record, Shape};
+
+// The ground below with something laid on some of its cells.
 #[derive(Drop)]
-pub struct PinLayer<G> {
+pub struct Layer<G, T> {
     pub below: G,
-    pub pins: Table<HeldRecord, 32>,
+    pub table: T,
 }
 
+// The ground below with some cells held at temperatures of their own.
+pub type PinLayer<G> = Layer<G, Table<HeldRecord, 32>>;
+
 // The ground below with the loss weights of some free cells replaced.
-#[derive(Drop)]
-pub struct LossLayer<G> {
-    pub below: G,
-    pub losses: Table<Loss, 16>,
+pub type LossLayer<G> = Layer<G, Table<Loss, 16>>;
+
+impl<G, T: Default> Layer<G, T> {
+    pub fn new(below: G) -> Self
+        ensures empty { T.is_default result.table }
+        ensures kept { result.below ≡ below }
+    {
+        Layer {
+            below,
+            table: T::default(),
+        }
+    }
+}
+
+impl<G: Ground, T: Laid> Ground for Layer<G, T> {
+    ghost plan = { λ s. laid_plan (T.Laid.laying s.table) (G.Ground.plan s.below) };
+
+    fn shape(&self) -> Shape {
+        self.below.shape()
+    }
+
+    fn record(&self, index: usize) -> Record {
+        if index < self.below.shape().cells() {
+            self.table.lay_over(index, self.below.record(index))
+        } else {
+            Record::Void
+        }
+    }
 }

@@ -1,10 +1,17 @@
 -- The limits that numbers keep, and the check of a call's numbers in their order.
-use Rattle.std.specs.Prelude.{ℕ, ◌+◌, Bool, ◌||◌, List, [], ◌∷◌, ℤ, pos, negsuc, int_lt}
+use Rattle.std.specs.Prelude.{◌≡◌, ℕ, ◌+◌, Bool, true, false, ◌||◌, List, [], ◌∷◌, ℤ, pos, negsuc, int_lt, Result, MatchResult}
 use Rattle.refusal.specs.Refusals.{Check, clear, ◌then◌, when, fault}
+use Rattle.refusal.specs.declared.types.Refusal.{Refusal}
+use Rattle.refusal.specs.declared.types.Refusal.TheVariants.{OutsideLimits}
 use Rattle.refusal.specs.declared.types.Level.TheVariants.{Call}
 
 abbrev pub outside : ℤ → ℤ → ℤ → Bool
 outside least most z = int_lt z least || int_lt most z
+
+-- a number at a position of a call gives what holds of the result, or is refused as outside its limits
+abbrev pub KeepsLimits : {X : Type 0} → Result X Refusal → ℕ → ℤ → ℤ → ℤ → (X → Type 0) → Type 0
+KeepsLimits r position least most z P =
+    MatchResult r (λ x. (outside least most z ≡ false) × P x) (λ e. (e ≡ OutsideLimits position) × (outside least most z ≡ true))
 
 -- a number that a call is passed, with its limits
 pub record Number : Type 0 where

@@ -1,6 +1,6 @@
-ghost use Rattle.std.specs.Prelude.{◌≡◌, ◌*◌, ◌≤◌, true, false, pos, MatchResult};
-ghost use Rattle.refusal.specs.Refusals.{clear, refuse, fault_of};
-ghost use Rattle.section.specs.Limits.{outside, shape_check, free_check, held_check, tolerance_check, bracket_check};
+ghost use Rattle.std.specs.Prelude.{◌≡◌, ◌*◌, ◌≤◌, pos};
+ghost use Rattle.refusal.specs.Refusals.{Checked};
+ghost use Rattle.section.specs.Limits.{KeepsLimits, shape_check, free_check, held_check, tolerance_check, bracket_check};
 
 use crate::limits::{held_at, within};
 use crate::types::{Bracket, FreeRecord, HeldRecord, Shape, Tolerance};
@@ -8,7 +8,7 @@ use refusal::types::Refusal;
 
 impl Shape {
     pub fn new(wide: i64, high: i64) -> Result<Shape, Refusal>
-        ensures { MatchResult result (λ s. (shape_check wide high ≡ clear) × (pos s.wide ≡ wide) × (pos s.high ≡ high)) (λ e. shape_check wide high ≡ refuse (fault_of e)) }
+        ensures { Checked result (shape_check wide high) (λ s. (pos s.wide ≡ wide) × (pos s.high ≡ high)) }
     {
         within(1, wide, 1, 64)?;
         within(2, high, 1, 64)?;
@@ -27,7 +27,7 @@ impl Shape {
 
 impl HeldRecord {
     pub fn new(temperature: i64) -> Result<HeldRecord, Refusal>
-        ensures { MatchResult result (λ h. (held_check temperature ≡ clear) × (h.temperature ≡ temperature)) (λ e. held_check temperature ≡ refuse (fault_of e)) }
+        ensures { Checked result (held_check temperature) (λ h. h.temperature ≡ temperature) }
     {
         held_at(1, temperature)
     }
@@ -35,7 +35,7 @@ impl HeldRecord {
 
 impl Tolerance {
     pub fn new(width: i64) -> Result<Tolerance, Refusal>
-        ensures { MatchResult result (λ t. (tolerance_check width ≡ clear) × (t.width ≡ width)) (λ e. tolerance_check width ≡ refuse (fault_of e)) }
+        ensures { Checked result (tolerance_check width) (λ t. t.width ≡ width) }
     {
         within(1, width, 0, 1_000_000_000)?;
         Ok(Tolerance { width })
@@ -44,7 +44,7 @@ impl Tolerance {
 
 impl Bracket {
     pub fn new(lo: i64, hi: i64) -> Result<Bracket, Refusal>
-        ensures { MatchResult result (λ b. (bracket_check lo hi ≡ clear) × (b.lo ≡ lo) × (b.hi ≡ hi)) (λ e. bracket_check lo hi ≡ refuse (fault_of e)) }
+        ensures { Checked result (bracket_check lo hi) (λ b. (b.lo ≡ lo) × (b.hi ≡ hi)) }
     {
         within(1, lo, -2_000_000_000, 2_000_000_000)?;
         within(2, hi, -2_000_000_000, 2_000_000_000)?;
@@ -56,7 +56,7 @@ impl Bracket {
 }
 
 fn weight(position: usize, number: i64) -> Result<u16, Refusal>
-    ensures { MatchResult result (λ c. (outside (pos 0) (pos 1000) number ≡ false) × (pos c ≡ number) × (c ≤ 1000)) (λ e. (e ≡ Refusal.OutsideLimits position) × (outside (pos 0) (pos 1000) number ≡ true)) }
+    ensures { KeepsLimits result position (pos 0) (pos 1000) number (λ c. (pos c ≡ number) × (c ≤ 1000)) }
 {
     within(position, number, 0, 1000)?;
     Ok(number as u16)
@@ -71,7 +71,7 @@ impl FreeRecord {
         loss: i64,
         heat: i64,
     ) -> Result<FreeRecord, Refusal>
-        ensures { MatchResult result (λ c. (free_check north west east south loss heat ≡ clear) × (pos c.north ≡ north) × (pos c.west ≡ west) × (pos c.east ≡ east) × (pos c.south ≡ south) × (pos c.loss ≡ loss) × (c.heat ≡ heat)) (λ e. free_check north west east south loss heat ≡ refuse (fault_of e)) }
+        ensures { Checked result (free_check north west east south loss heat) (λ c. (pos c.north ≡ north) × (pos c.west ≡ west) × (pos c.east ≡ east) × (pos c.south ≡ south) × (pos c.loss ≡ loss) × (c.heat ≡ heat)) }
     {
         let north = weight(1, north)?;
         let west = weight(2, west)?;

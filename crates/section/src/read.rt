@@ -1,42 +1,45 @@
 ghost use Rattle.std.specs.Prelude.{◌≡◌};
 ghost use Rattle.section.specs.Plan.{meant};
-ghost use Rattle.section.specs.Reading.{row_cell, row_bracket, plain};
+ghost use Rattle.section.specs.Reading.{row_cell, row_bracket, plain, widest};
 
 use crate::rows::{BracketRow, FreeRow, Row};
 use crate::types::{Bracket, FreeRecord, HeldRecord, Record};
 
-impl Row {
-    // The record that the row gives; a number outside its limits gives void.
-    pub fn record(self) -> Record
-        ensures { meant result ≡ row_cell self }
-    {
-        match self {
-            Row::Free(row) => match FreeRecord::new(
+// A number outside its limits gives void.
+impl From<Row> for Record {
+    ghost from_gives = { λ row r. meant r ≡ row_cell row };
+
+    fn from(row: Row) -> Record {
+        match row {
+            Row::Free(row) => FreeRecord::new(
                 row.north, row.west, row.east, row.south, row.loss, row.heat,
-            ) {
-                Ok(record) => Record::Free(record),
-                Err(_) => Record::Void,
-            },
-            Row::Held(temperature) => match HeldRecord::new(temperature) {
-                Ok(record) => Record::Held(record),
-                Err(_) => Record::Void,
-            },
+            )
+            .map_or(Record::Void, Record::Free),
+            Row::Held(temperature) => {
+                HeldRecord::new(temperature).map_or(Record::Void, Record::Held)
+            }
             Row::Void => Record::Void,
         }
     }
 }
 
-impl BracketRow {
-    // The bracket that the row gives; one that makes no bracket gives the widest.
-    pub fn bracket(self) -> Bracket
-        ensures { plain result ≡ row_bracket self }
-    {
-        match Bracket::new(self.lo, self.hi) {
-            Ok(bracket) => bracket,
-            Err(_) => Bracket {
-                lo: -2_000_000_000,
-                hi: 2_000_000_000,
-            },
+// The widest bracket: all that a cell's temperature can be.
+impl Default for Bracket {
+    ghost is_default = { λ b. plain b ≡ widest };
+
+    fn default() -> Bracket {
+        Bracket {
+            lo: -2_000_000_000,
+            hi: 2_000_000_000,
         }
+    }
+}
+
+// A row that makes no bracket gives the widest.
+impl From<BracketRow> for Bracket {
+    ghost from_gives = { λ row b. plain b ≡ row_bracket row };
+
+    fn from(row: BracketRow) -> Bracket {
+        Bracket::new(row.lo, row.hi).unwrap_or_default()
     }
 }

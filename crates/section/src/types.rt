@@ -1,7 +1,7 @@
 ghost use Rattle.std.specs.Prelude.{◌≤◌, pos, negsuc, ◌≤ℤ◌};
 
 // The columns and rows of a section.
-#[derive(Clone, Copy)]
+#[derive(Clone, Copy, Debug, PartialEq, Eq)]
 pub struct Shape {
     pub wide: usize,
     pub high: usize,
@@ -13,7 +13,7 @@ pub struct Shape {
 
 // A cell whose temperature is sought: its conductances to the four sides, its loss
 // toward the surroundings, and the heat released in it.
-#[derive(Clone, Copy)]
+#[derive(Clone, Copy, Debug, PartialEq, Eq)]
 pub struct FreeRecord {
     pub north: u16,
     pub west: u16,
@@ -31,14 +31,14 @@ pub struct FreeRecord {
 }
 
 // A cell whose temperature is given, in millionths of a degree.
-#[derive(Clone, Copy)]
+#[derive(Clone, Copy, Debug, PartialEq, Eq)]
 pub struct HeldRecord {
     pub temperature: i64,
     ghost coldest: { negsuc 999999999 ≤ℤ temperature },
     ghost hottest: { temperature ≤ℤ pos 1000000000 },
 }
 
-#[derive(Clone, Copy)]
+#[derive(Clone, Copy, Debug, PartialEq, Eq)]
 pub enum Record {
     Free(FreeRecord),
     Held(HeldRecord),
@@ -46,7 +46,7 @@ pub enum Record {
 }
 
 // The width at which a bracket is narrow enough.
-#[derive(Clone, Copy)]
+#[derive(Clone, Copy, Debug, PartialEq, Eq)]
 pub struct Tolerance {
     pub width: i64,
     ghost width_least: { pos 0 ≤ℤ width },
@@ -54,7 +54,7 @@ pub struct Tolerance {
 }
 
 // The lowest and the highest temperature that a cell can have.
-#[derive(Clone, Copy)]
+#[derive(Clone, Copy, Debug, PartialEq, Eq)]
 pub struct Bracket {
     pub lo: i64,
     pub hi: i64,

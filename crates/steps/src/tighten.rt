@@ -57,13 +57,13 @@ fn tighten_at(site: &Site<BracketRow>) -> Turn<BracketRow>
     if diagonal == 0 {
         return Turn::Stay;
     }
-    let north = site.north.bracket();
-    let west = site.west.bracket();
-    let east = site.east.bracket();
-    let south = site.south.bracket();
+    let north = Bracket::from(site.north);
+    let west = Bracket::from(site.west);
+    let east = Bracket::from(site.east);
+    let south = Bracket::from(site.south);
     let low = pull(&site.stencil, north.lo, west.lo, east.lo, south.lo);
     let high = pull(&site.stencil, north.hi, west.hi, east.hi, south.hi);
-    let old = site.old.bracket();
+    let old = Bracket::from(site.old);
     let lo = lower(old.lo, low, diagonal);
     let hi = upper(old.hi, high, diagonal);
     narrowed(BracketRow { lo, hi }, old)

@@ -4,9 +4,8 @@ use mathlib.Core.Path.{fun_ext}
 use Rattle.refusal.specs.Refusals.{Check, clear, refuse, Fault, Answer, refused, accepted, answer, unless_refused}
 use Rattle.section.specs.Plan.{Plan, free_count}
 use Rattle.layers.specs.Layers.{holding}
-use Rattle.layers.specs.declared.layer.PinLayer.{PinLayer}
 use Rattle.study.specs.Calls.{standing, Pinning, anew}
-use Rattle.study.specs.Pins.{pins_in, pin_count, plan_through, ChangesPins}
+use Rattle.study.specs.Pins.{PinLayer, pins_in, pin_count, plan_through, ChangesPins}
 use Rattle.study.specs.Studies.{standing_of, pinning_of, Repinned}
 use Rattle.study.specs.declared.types.State.TheVariants.{Unproved}
 use Rattle.study.specs.declared.types.Study.{Study}

@@ -4,14 +4,20 @@ use Rattle.refusal.specs.Refusals.{Check, unless_refused}
 use Rattle.section.specs.Plan.{Plan}
 use Rattle.layers.specs.Layers.{pinned_at, holding, pin_checks, release_checks}
 use Rattle.layers.specs.Tables.{used}
-use Rattle.layers.specs.declared.layer.PinLayer.{PinLayer}
+use Rattle.layers.specs.declared.layer.Layer.{Layer}
+use Rattle.layers.specs.declared.table.Table.{Table}
+use Rattle.section.specs.declared.types.HeldRecord.{HeldRecord}
+
+-- a ground with pins over it
+abbrev pub PinLayer : Type 0 → Type 0
+PinLayer G = Layer G (Table HeldRecord 32)
 
 -- its pins, and how many there are
 abbrev pub pins_in : {G : Type 0} → PinLayer G → ℕ → Option ℤ
-pins_in layer = pinned_at layer.pins.places
+pins_in layer = pinned_at layer.table.places
 
 abbrev pub pin_count : {G : Type 0} → PinLayer G → ℕ
-pin_count layer = used layer.pins.places
+pin_count layer = used layer.table.places
 
 -- what the ground below means, with every pinned cell held
 abbrev pub plan_through : {G : Type 0} → (G → Plan) → PinLayer G → Plan

@@ -132,7 +132,7 @@ impl<G: Ground> Study<G> {
         if !self.is_free(cell) {
             return Err(Refusal::NotFree(cell));
         }
-        Ok(brackets[cell].bracket())
+        Ok(Bracket::from(brackets[cell]))
     }
 
     // Holds a free cell at a temperature. What was proved is proved no more.

@@ -9,28 +9,28 @@ use Rattle.steps.proofs.tighten.tighten_at.Goals as goal
 
 pub pull-low-requires : goal.pull-low-requires
 pull-low-requires c = record {
-  north = entry-word c.bracket-north.result.lo (low_abs c.bracket-north.result);
-  west = entry-word c.bracket-west.result.lo (low_abs c.bracket-west.result);
-  east = entry-word c.bracket-east.result.lo (low_abs c.bracket-east.result);
-  south = entry-word c.bracket-south.result.lo (low_abs c.bracket-south.result);
+  north = entry-word c.from-north.result.lo (low_abs c.from-north.result);
+  west = entry-word c.from-west.result.lo (low_abs c.from-west.result);
+  east = entry-word c.from-east.result.lo (low_abs c.from-east.result);
+  south = entry-word c.from-south.result.lo (low_abs c.from-south.result);
 }
 
 pub pull-high-requires : goal.pull-high-requires
 pull-high-requires c = record {
-  north = entry-word c.bracket-north.result.hi (high_abs c.bracket-north.result);
-  west = entry-word c.bracket-west.result.hi (high_abs c.bracket-west.result);
-  east = entry-word c.bracket-east.result.hi (high_abs c.bracket-east.result);
-  south = entry-word c.bracket-south.result.hi (high_abs c.bracket-south.result);
+  north = entry-word c.from-north.result.hi (high_abs c.from-north.result);
+  west = entry-word c.from-west.result.hi (high_abs c.from-west.result);
+  east = entry-word c.from-east.result.hi (high_abs c.from-east.result);
+  south = entry-word c.from-south.result.hi (high_abs c.from-south.result);
 }
 
 pub returns : goal.returns
 returns c =
-    let low = end_seen c.args.site.now.stencil c.pull-low.result c.bracket-north.result.lo c.bracket-west.result.lo c.bracket-east.result.lo c.bracket-south.result.lo _ _ _ _ c.pull-low.ensures.value c.pull-low.ensures.size (low_abs c.bracket-north.result) (low_abs c.bracket-west.result) (low_abs c.bracket-east.result) (low_abs c.bracket-south.result) (ap (λ r. r.lo) c.bracket-north.ensures) (ap (λ r. r.lo) c.bracket-west.ensures) (ap (λ r. r.lo) c.bracket-east.ensures) (ap (λ r. r.lo) c.bracket-south.ensures) in
-    let high = end_seen c.args.site.now.stencil c.pull-high.result c.bracket-north.result.hi c.bracket-west.result.hi c.bracket-east.result.hi c.bracket-south.result.hi _ _ _ _ c.pull-high.ensures.value c.pull-high.ensures.size (high_abs c.bracket-north.result) (high_abs c.bracket-west.result) (high_abs c.bracket-east.result) (high_abs c.bracket-south.result) (ap (λ r. r.hi) c.bracket-north.ensures) (ap (λ r. r.hi) c.bracket-west.ensures) (ap (λ r. r.hi) c.bracket-east.ensures) (ap (λ r. r.hi) c.bracket-south.ensures) in
-    let old = c.bracket-old.result in
+    let low = end_seen c.args.site.now.stencil c.pull-low.result c.from-north.result.lo c.from-west.result.lo c.from-east.result.lo c.from-south.result.lo _ _ _ _ c.pull-low.ensures.value c.pull-low.ensures.size (low_abs c.from-north.result) (low_abs c.from-west.result) (low_abs c.from-east.result) (low_abs c.from-south.result) (ap (λ r. r.lo) c.from-north.ensures) (ap (λ r. r.lo) c.from-west.ensures) (ap (λ r. r.lo) c.from-east.ensures) (ap (λ r. r.lo) c.from-south.ensures) in
+    let high = end_seen c.args.site.now.stencil c.pull-high.result c.from-north.result.hi c.from-west.result.hi c.from-east.result.hi c.from-south.result.hi _ _ _ _ c.pull-high.ensures.value c.pull-high.ensures.size (high_abs c.from-north.result) (high_abs c.from-west.result) (high_abs c.from-east.result) (high_abs c.from-south.result) (ap (λ r. r.hi) c.from-north.ensures) (ap (λ r. r.hi) c.from-west.ensures) (ap (λ r. r.hi) c.from-east.ensures) (ap (λ r. r.hi) c.from-south.ensures) in
+    let old = c.from-old.result in
     let fl : SFits w64 c.lower-lo.result = search rules in
     let fh : SFits w64 c.upper-hi.result = search rules in
-    let is = c.bracket-old.ensures in
+    let is = c.from-old.ensures in
     let lo = to_z-of_z w64 c.lower-lo.result fl ∙ c.lower-lo.ensures ∙ rw (entry-back old.lo (low_abs old) ∙ ap (λ r. r.lo) is, low) refl in
     let hi = to_z-of_z w64 c.upper-hi.result fh ∙ c.upper-hi.ensures ∙ rw (entry-back old.hi (high_abs old) ∙ ap (λ r. r.hi) is, high) refl in
     tighten_turned c.args.site.now.stencil.diagonal c.narrowed.result (word c.lower-lo.result) (word c.upper-hi.result)

@@ -1,0 +1,5 @@
+use Rattle.std.proofs.Common.{rules}
+use Rattle.ground.proofs.slab.Slab.new.Goals as goal
+
+pub returns-in_err-within : goal.returns-in_err-within
+returns-in_err-within c = search rules
