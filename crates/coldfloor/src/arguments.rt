@@ -2,16 +2,38 @@ ghost use Rattle.std.specs.Prelude.{◌+◌, ◌^◌, ◌<◌};
 
 use crate::command::Grid;
 use crate::fault::Unread;
+use crate::line::Line;
 
-// What a line says after the words that name its command: the command, and its grid if it has one.
+// The words that are left of a line after its command, and after its grid if it has named one.
 #[derive(Clone, Copy)]
 pub(crate) struct Arguments<'a> {
     pub(crate) command: &'a [u8],
-    pub(crate) grid: Option<Grid>,
-    pub(crate) words: &'a [&'a [u8]],
+    grid: Option<Grid>,
+    words: &'a [&'a [u8]],
 }
 
 impl<'a> Arguments<'a> {
+    pub(crate) fn of(line: &'a Line<'a>) -> Arguments<'a> {
+        Arguments {
+            command: line.command,
+            grid: None,
+            words: line.arguments.as_slice(),
+        }
+    }
+
+    // The grid that the first names, and the others.
+    pub(crate) fn with_grid(self) -> Result<(Grid, Arguments<'a>), Unread<'a>> {
+        let no_grid = Unread::NoGrid(self.command);
+        let (first, words) = self.words.split_first().ok_or(no_grid)?;
+        let grid = Grid::named(first).ok_or(no_grid)?;
+        let others = Arguments {
+            command: self.command,
+            grid: Some(grid),
+            words,
+        };
+        Ok((grid, others))
+    }
+
     // All of them as so many numbers.
     pub(crate) fn numbers<const N: usize>(self) -> Result<[i64; N], Unread<'a>> {
         numbers_of(self.words)?.ok_or(self.miscounted(N))

@@ -1,4 +1,5 @@
 use crate::command::Grid;
+use crate::grids::MOST_ENTRIES;
 use refusal::types::Refusal;
 use std::alloc::{AllocError, AllocFailed};
 use std::io::Write;
@@ -89,7 +90,7 @@ impl fmt::Display for Untimely {
                 cells,
             } => write!(f, "{grid} has {entries} entries, not {cells}"),
             Untimely::PastEnd { grid, cell } => write!(f, "cell {cell} is past the end of {grid}"),
-            Untimely::TooLong => f.write_str("a grid has at most 100000 entries"),
+            Untimely::TooLong => write!(f, "a grid has at most {MOST_ENTRIES} entries"),
         }
     }
 }

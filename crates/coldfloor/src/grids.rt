@@ -14,6 +14,9 @@ pub(crate) struct Grids {
     pub(crate) brackets: Vec<BracketRow>,
 }
 
+// The longest that a script may make a grid.
+pub(crate) const MOST_ENTRIES: usize = 100_000;
+
 const NO_TEMPERATURE: Temperature = Temperature { value: 0 };
 
 const NO_MAJORANT: Majorant = Majorant { value: 0 };

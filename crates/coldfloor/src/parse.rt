@@ -15,13 +15,10 @@ fn free_row([north, west, east, south, loss, heat]: [i64; 6]) -> Row {
     })
 }
 
-// How many numbers a command takes is said by the pattern that they are given to.
+// The type of the numbers that a command keeps, or the pattern that takes them apart, says how many
+// it takes.
 pub(crate) fn command_of<'a>(line: &'a Line<'a>) -> Result<Command, Unread<'a>> {
-    let given = Arguments {
-        command: line.command,
-        grid: None,
-        words: line.arguments.as_slice(),
-    };
+    let given = Arguments::of(line);
     match given.command {
         b"slab" => given.numbers().map(Command::Slab),
         b"ring" => given.numbers().map(Command::Ring),
@@ -37,6 +34,26 @@ pub(crate) fn command_of<'a>(line: &'a Line<'a>) -> Result<Command, Unread<'a>> 
         b"study" => given
             .numbers::<1>()
             .map(|[tolerance]| Command::Study { tolerance }),
+        b"show" | b"write" | b"length" => grid_command_of(given),
+        _ => study_command_of(given),
+    }
+}
+
+// The commands that name a grid.
+fn grid_command_of(given: Arguments<'_>) -> Result<Command, Unread<'_>> {
+    let (grid, given) = given.with_grid()?;
+    match given.command {
+        b"show" => given.numbers::<0>().map(|[]| Command::Show(grid)),
+        b"length" => given
+            .counted::<0>()
+            .map(|(count, [])| Command::Length { grid, count }),
+        _ => write_of(grid, given),
+    }
+}
+
+// The other commands to a study.
+fn study_command_of(given: Arguments<'_>) -> Result<Command, Unread<'_>> {
+    match given.command {
         b"pin" => given
             .counted::<1>()
             .map(|(cell, [temperature])| Command::Pin { cell, temperature }),
@@ -58,34 +75,11 @@ pub(crate) fn command_of<'a>(line: &'a Line<'a>) -> Result<Command, Unread<'a>> 
             .map(|(cell, [])| Command::Bracket { cell }),
         b"open" => given.numbers::<0>().map(|[]| Command::Open),
         b"finished" => given.numbers::<0>().map(|[]| Command::Finished),
-        b"show" | b"write" | b"length" => grid_command_of(given),
         _ => Err(Unread::NoCommand(given.command)),
     }
 }
 
-// The commands that name a grid next.
-fn grid_command_of(given: Arguments<'_>) -> Result<Command, Unread<'_>> {
-    let Some((word, words)) = given.words.split_first() else {
-        return Err(Unread::NoGrid(given.command));
-    };
-    let Some(grid) = Grid::named(word) else {
-        return Err(Unread::NoGrid(given.command));
-    };
-    let given = Arguments {
-        command: given.command,
-        grid: Some(grid),
-        words,
-    };
-    match given.command {
-        b"show" => given.numbers::<0>().map(|[]| Command::Show(grid)),
-        b"length" => given
-            .counted::<0>()
-            .map(|(count, [])| Command::Length { grid, count }),
-        _ => write_of(grid, given),
-    }
-}
-
-fn write_of<'a>(grid: Grid, given: Arguments<'a>) -> Result<Command, Unread<'a>> {
+fn write_of(grid: Grid, given: Arguments<'_>) -> Result<Command, Unread<'_>> {
     let (cell, entry) = match grid {
         Grid::Temperatures => {
             let (cell, [value]) = given.counted::<1>()?;

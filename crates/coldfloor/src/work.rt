@@ -1,14 +1,12 @@
 use crate::command::{Entry, Grid};
 use crate::fault::{Fault, Untimely};
 use crate::floor::Floor;
-use crate::grids::Grids;
+use crate::grids::{Grids, MOST_ENTRIES};
 use ground::ground::Ground;
 use layers::layer::LossLayer;
 use std::alloc::{AllocError, Global};
 use std::fmt::Display;
 use study::types::Study;
-
-const MOST_ENTRIES: usize = 100_000;
 
 // A study with the grids that its calls are passed.
 #[derive(Drop)]
