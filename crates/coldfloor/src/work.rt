@@ -96,18 +96,18 @@ impl Work {
         let cells = self.study.shape().cells();
         let entries = self.grids.entries(grid);
         if entries != cells {
-            return Err(Fault::Untimely(Untimely::Entries {
+            let untimely = Untimely::Entries {
                 grid,
                 entries,
                 cells,
-            }));
+            };
+            return Err(untimely.into());
         }
-        let lines = match grid {
+        Ok(match grid {
             Grid::Temperatures => self.lines(&self.grids.temperatures)?,
             Grid::Majorant => self.lines(&self.grids.majorant)?,
             Grid::Brackets => self.lines(&self.grids.brackets)?,
-        };
-        Ok(lines)
+        })
     }
 
     // The entries at the free cells, a line for each row of the section.
