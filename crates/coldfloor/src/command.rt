@@ -1,4 +1,5 @@
 use section::rows::{BracketRow, Majorant, Row, Temperature};
+use std::fmt;
 
 // The grids of a study.
 #[derive(Clone, Copy)]
@@ -9,12 +10,23 @@ pub(crate) enum Grid {
 }
 
 impl Grid {
-    pub(crate) fn name(self) -> &'static str {
-        match self {
+    pub(crate) fn named(word: &[u8]) -> Option<Grid> {
+        match word {
+            b"temperatures" => Some(Grid::Temperatures),
+            b"majorant" => Some(Grid::Majorant),
+            b"brackets" => Some(Grid::Brackets),
+            _ => None,
+        }
+    }
+}
+
+impl fmt::Display for Grid {
+    fn fmt<W: fmt::Write>(&self, f: &mut fmt::Formatter<W>) -> fmt::Result {
+        f.write_str(match self {
             Grid::Temperatures => "temperatures",
             Grid::Majorant => "majorant",
             Grid::Brackets => "brackets",
-        }
+        })
     }
 }
 
@@ -36,33 +48,12 @@ impl Entry {
     }
 }
 
-#[derive(Clone, Copy)]
-pub(crate) struct SlabNumbers {
-    pub(crate) wide: i64,
-    pub(crate) high: i64,
-    pub(crate) top: i64,
-    pub(crate) bottom: i64,
-    pub(crate) first: i64,
-    pub(crate) last: i64,
-    pub(crate) heat: i64,
-}
-
-#[derive(Clone, Copy)]
-pub(crate) struct RingNumbers {
-    pub(crate) wide: i64,
-    pub(crate) high: i64,
-    pub(crate) top: i64,
-    pub(crate) bottom: i64,
-    pub(crate) last: i64,
-    pub(crate) q: i64,
-}
-
-// A command with its numbers, in or out of limits.
+// A command with its numbers, in or out of limits. A ground has its numbers in the script's order.
 #[derive(Clone, Copy)]
 pub(crate) enum Command {
-    Slab(SlabNumbers),
-    Ring(RingNumbers),
-    Listed { wide: i64, high: i64 },
+    Slab([i64; 7]),
+    Ring([i64; 6]),
+    Listed([i64; 2]),
     Row(Row),
     Loss { cell: usize, weight: i64 },
     Study { tolerance: i64 },

@@ -1,6 +1,7 @@
-ghost use Rattle.std.specs.Prelude.{◌≡◌, length, IfOk, if◌then◌else◌, vec_len, nat_lt, slice_set};
+ghost use Rattle.std.specs.Prelude.{◌≡◌, ◌<◌, ◌↔◌, length, IfOk, IsSome, OnSome, IfNone, vec_len, slice_set};
 
 use crate::command::{Entry, Grid};
+use crate::fault::Untimely;
 use section::rows::{BracketRow, Majorant, Temperature};
 use std::alloc::{AllocError, Global};
 
@@ -12,6 +13,9 @@ pub(crate) struct Grids {
     pub(crate) majorant: Vec<Majorant>,
     pub(crate) brackets: Vec<BracketRow>,
 }
+
+// The longest that a script may make a grid.
+pub(crate) const MOST_ENTRIES: usize = 100_000;
 
 const NO_TEMPERATURE: Temperature = Temperature { value: 0 };
 
@@ -47,50 +51,28 @@ impl Grids {
         }
     }
 
-    // Whether the cell lies within the grid, and so was written.
-    pub(crate) fn write(&mut self, cell: usize, entry: Entry) -> bool {
-        match entry {
+    pub(crate) fn write(&mut self, cell: usize, entry: Entry) -> Result<(), Untimely> {
+        let written = match entry {
             Entry::Temperature(value) => put(&mut self.temperatures, cell, value),
             Entry::Majorant(value) => put(&mut self.majorant, cell, value),
             Entry::Bracket(row) => put(&mut self.brackets, cell, row),
-        }
+        };
+        written.ok_or(Untimely::PastEnd {
+            grid: entry.grid(),
+            cell,
+        })
     }
 }
 
-fn put<T: Copy>(entries: &mut [T], cell: usize, entry: T) -> bool
-    ensures within { result ≡ nat_lt cell (length entries.old) }
-    ensures after { entries.new ≡ (if result then slice_set entries.old cell entry else entries.old) }
+// None where the cell is past the end.
+fn put<T: Copy>(entries: &mut [T], cell: usize, entry: T) -> Option<()>
+    ensures within { IsSome result ↔ (cell < length entries.old) }
+    ensures written { OnSome result (entries.new ≡ slice_set entries.old cell entry) }
+    ensures past { IfNone result (entries.new ≡ entries.old) }
 {
-    let within = cell < entries.len();
-    if within {
-        entries[cell] = entry;
+    if cell >= entries.len() {
+        return None;
     }
-    within
-}
-
-// An entry as it lies in its grid.
-pub(crate) trait Shown {
-    fn shown(&self, heap: Global) -> Result<String, AllocError>;
-}
-
-impl Shown for Temperature {
-    fn shown(&self, heap: Global) -> Result<String, AllocError> {
-        let value = self.value;
-        format!(in heap; "{value}")
-    }
-}
-
-impl Shown for Majorant {
-    fn shown(&self, heap: Global) -> Result<String, AllocError> {
-        let value = self.value;
-        format!(in heap; "{value}")
-    }
-}
-
-impl Shown for BracketRow {
-    fn shown(&self, heap: Global) -> Result<String, AllocError> {
-        let lo = self.lo;
-        let hi = self.hi;
-        format!(in heap; "{lo}..{hi}")
-    }
+    entries[cell] = entry;
+    Some(())
 }

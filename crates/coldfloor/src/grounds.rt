@@ -1,6 +1,5 @@
 ghost use Rattle.coldfloor.specs.Floors.{floor_plan};
 
-use crate::command::{RingNumbers, SlabNumbers};
 use crate::floor::Floor;
 use ground::ground::Ground;
 use ground::listed::Listed;
@@ -10,18 +9,21 @@ use refusal::types::Refusal;
 use section::types::{Record, Shape};
 use std::alloc::Global;
 
-pub(crate) fn slab_floor(n: SlabNumbers) -> Result<Floor, Refusal> {
-    let shape = Shape::new(n.wide, n.high)?;
-    Ok(Floor::Slab(Slab::new(shape, n.top, n.bottom, n.first, n.last, n.heat)?))
+pub(crate) fn slab_floor(numbers: [i64; 7]) -> Result<Floor, Refusal> {
+    let [wide, high, top, bottom, first, last, heat] = numbers;
+    let shape = Shape::new(wide, high)?;
+    Ok(Floor::Slab(Slab::new(shape, top, bottom, first, last, heat)?))
 }
 
-pub(crate) fn ring_floor(n: RingNumbers) -> Result<Floor, Refusal> {
-    let shape = Shape::new(n.wide, n.high)?;
-    Ok(Floor::Ring(Ring::new(shape, n.top, n.bottom, n.last, n.q)?))
+pub(crate) fn ring_floor(numbers: [i64; 6]) -> Result<Floor, Refusal> {
+    let [wide, high, top, bottom, last, q] = numbers;
+    let shape = Shape::new(wide, high)?;
+    Ok(Floor::Ring(Ring::new(shape, top, bottom, last, q)?))
 }
 
 // A table that has no row yet.
-pub(crate) fn listed_floor(heap: Global, wide: i64, high: i64) -> Result<Floor, Refusal> {
+pub(crate) fn listed_floor(heap: Global, numbers: [i64; 2]) -> Result<Floor, Refusal> {
+    let [wide, high] = numbers;
     let shape = Shape::new(wide, high)?;
     Ok(Floor::Listed(Listed::new(shape, Vec::new(heap))))
 }

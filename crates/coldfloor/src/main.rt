@@ -2,36 +2,35 @@
 // library, and writes a transcript to standard output.
 #![tactic(auto)]
 
+mod arguments;
 mod command;
 mod fault;
 mod floor;
 mod grids;
 mod grounds;
+mod line;
 mod parse;
 mod session;
 mod stage;
 mod transcript;
-mod unread;
-mod words;
 mod work;
 
+use line::Line;
 use session::Session;
 use std::io;
 use std::io::{BufRead, BufReader, BufWriter, Write};
-use transcript::answer_to;
+use transcript::answer;
 
 fn main(rt: HostRuntime) -> io::Result<()> {
     let heap = rt.alloc();
-    let mut input = BufReader::new(heap, rt.stdin())?;
+    let input = BufReader::new(heap, rt.stdin())?;
     let mut output = BufWriter::new(heap, rt.stdout())?;
     let mut session = Session::new(heap);
-    for number in 1..u64::MAX {
-        let mut line = Vec::new(heap);
-        if input.read_until(b'\n', &mut line)? == 0 {
-            break;
+    for (number, text) in (1..u64::MAX).zip(input.split(heap, b'\n')) {
+        let text = text?;
+        if let Some(line) = Line::read(heap, number, text.as_slice())? {
+            answer(&mut session, &line, &mut output)?;
         }
-        let answer = answer_to(heap, &mut session, number, line.as_slice())?;
-        output.write_all(answer.as_slice())?;
     }
     output.flush()
 }

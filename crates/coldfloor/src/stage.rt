@@ -1,15 +1,8 @@
 use crate::fault::Untimely;
 use crate::floor::Floor;
-use crate::grids::Grids;
+use crate::work::Work;
+use ground::listed::Listed;
 use layers::layer::LossLayer;
-use study::types::Study;
-
-// A study with the grids that its calls are passed.
-#[derive(Drop)]
-pub(crate) struct Work {
-    pub(crate) study: Study<LossLayer<Floor>>,
-    pub(crate) grids: Grids,
-}
 
 // How far a script has come. A table is open as long as a listed floor is the ground.
 #[derive(Drop)]
@@ -24,6 +17,16 @@ impl Stage {
         match self {
             Stage::Ground(layer) => Ok(layer),
             _ => Err(Untimely::NoGround),
+        }
+    }
+
+    pub(crate) fn table(&mut self) -> Result<&mut Listed, Untimely> {
+        let Stage::Ground(layer) = self else {
+            return Err(Untimely::NoTable);
+        };
+        match &mut layer.below {
+            Floor::Listed(table) => Ok(table),
+            _ => Err(Untimely::NoTable),
         }
     }
 

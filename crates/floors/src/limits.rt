@@ -1,17 +1,16 @@
-use crate::told::{granted, outcome};
+use crate::told::Outcome;
+use anyhow::Result;
 use ground::ring::Ring;
 use ground::slab::Slab;
 use section::types::{Bracket, FreeRecord, HeldRecord, Shape, Tolerance};
-use std::io;
 
-pub(crate) fn shapes(rt: &HostRuntime) -> io::Result<()> {
-    let heap = rt.alloc();
+pub(crate) fn shapes(rt: &HostRuntime) -> Result<()> {
     for (wide, high) in [(1, 1), (64, 64), (0, 1), (65, 1), (1, 0), (1, 65)] {
-        let answer = outcome(heap, Shape::new(wide, high))?;
+        let answer = Outcome(Shape::new(wide, high));
         println!(rt; "shape {wide} by {high}: {answer}")?;
     }
     for width in [0, 1_000_000_000, -1, 1_000_000_001] {
-        let answer = outcome(heap, Tolerance::new(width))?;
+        let answer = Outcome(Tolerance::new(width));
         println!(rt; "tolerance {width}: {answer}")?;
     }
     for (lo, hi) in [
@@ -20,14 +19,13 @@ pub(crate) fn shapes(rt: &HostRuntime) -> io::Result<()> {
         (-2_000_000_000, 2_000_000_001),
         (1, 0),
     ] {
-        let answer = outcome(heap, Bracket::new(lo, hi))?;
+        let answer = Outcome(Bracket::new(lo, hi));
         println!(rt; "bracket {lo} to {hi}: {answer}")?;
     }
     Ok(())
 }
 
-pub(crate) fn records(rt: &HostRuntime) -> io::Result<()> {
-    let heap = rt.alloc();
+pub(crate) fn records(rt: &HostRuntime) -> Result<()> {
     for (north, west, east, south, loss, heat) in [
         (1000, 1000, 1000, 1000, 1000, 1_000_000_000_000),
         (0, 0, 0, 0, 0, -1_000_000_000_000),
@@ -40,19 +38,18 @@ pub(crate) fn records(rt: &HostRuntime) -> io::Result<()> {
         (-1, 1000, 1000, 1000, 1000, 1_000_000_000_000),
         (1000, 1000, 1000, 1000, 1000, -1_000_000_000_001),
     ] {
-        let answer = outcome(heap, FreeRecord::new(north, west, east, south, loss, heat))?;
+        let answer = Outcome(FreeRecord::new(north, west, east, south, loss, heat));
         println!(rt; "free {north} {west} {east} {south} {loss} {heat}: {answer}")?;
     }
     for temperature in [1_000_000_000, -1_000_000_000, 1_000_000_001, -1_000_000_001] {
-        let answer = outcome(heap, HeldRecord::new(temperature))?;
+        let answer = Outcome(HeldRecord::new(temperature));
         println!(rt; "held {temperature}: {answer}")?;
     }
     Ok(())
 }
 
-pub(crate) fn floors(rt: &HostRuntime) -> io::Result<()> {
-    let heap = rt.alloc();
-    let shape = granted(Shape::new(3, 3))?;
+pub(crate) fn floors(rt: &HostRuntime) -> Result<()> {
+    let shape = Shape::new(3, 3)?;
     for (top, bottom, first, last, heat) in [
         (
             1_000_000_000,
@@ -67,11 +64,11 @@ pub(crate) fn floors(rt: &HostRuntime) -> io::Result<()> {
         (0, 0, 0, 1_000_000_001, 0),
         (0, 0, 0, 0, 1_000_000_000_001),
     ] {
-        let answer = outcome(heap, Slab::new(shape, top, bottom, first, last, heat))?;
+        let answer = Outcome(Slab::new(shape, top, bottom, first, last, heat));
         println!(rt; "slab {top} {bottom} {first} {last} {heat}: {answer}")?;
     }
     for q in [1_000_000_000, 1_000_000_001] {
-        let answer = outcome(heap, Ring::new(shape, 0, 0, 0, q))?;
+        let answer = Outcome(Ring::new(shape, 0, 0, 0, q));
         println!(rt; "ring 0 0 0 {q}: {answer}")?;
     }
     Ok(())

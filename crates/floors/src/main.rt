@@ -8,14 +8,14 @@ mod runs;
 mod tables;
 mod told;
 
+use anyhow::Result;
 use limits::{floors, records, shapes};
 use plans::links;
 use runs::{climbing, majorants};
-use std::io;
 use tables::{losses, pins};
 use worked::worked_floors;
 
-fn main(rt: HostRuntime) -> io::Result<()> {
+fn main(rt: HostRuntime) -> Result<()> {
     links(&rt)?;
     shapes(&rt)?;
     records(&rt)?;
@@ -25,5 +25,6 @@ fn main(rt: HostRuntime) -> io::Result<()> {
     climbing(&rt)?;
     majorants(&rt)?;
     let count = worked_floors();
-    println!(&rt; "{count} floors worked by hand are proved to come out as the table says")
+    println!(&rt; "{count} floors worked by hand are proved to come out as the table says")?;
+    Ok(())
 }

@@ -1,6 +1,6 @@
 use crate::plans::{line, slab};
-use crate::told;
-use crate::told::{granted, outcome};
+use crate::told::Changed;
+use anyhow::Result;
 use ground::ground::{Ground, free_cells};
 use ground::slab::Slab;
 use layers::layer::{LossLayer, PinLayer};
@@ -12,22 +12,20 @@ fn pin(
     cell: usize,
     temperature: i64,
 ) -> io::Result<()> {
-    let heap = rt.alloc();
-    let answer = outcome(heap, layer.pin(cell, temperature))?;
-    let record = told::record(heap, layer.record(cell))?;
+    let answer = layer.pin(cell, temperature);
+    let changed = Changed::new(answer, layer, cell);
     let free = free_cells(layer);
-    println!(rt; "pin {cell} at {temperature}: {answer}; {record}, {free} free")
+    println!(rt; "pin {cell} at {temperature}: {changed}, {free} free")
 }
 
 fn release(rt: &HostRuntime, layer: &mut PinLayer<Slab>, cell: usize) -> io::Result<()> {
-    let heap = rt.alloc();
-    let answer = outcome(heap, layer.release(cell))?;
-    let record = told::record(heap, layer.record(cell))?;
+    let answer = layer.release(cell);
+    let changed = Changed::new(answer, layer, cell);
     let free = free_cells(layer);
-    println!(rt; "release {cell}: {answer}; {record}, {free} free")
+    println!(rt; "release {cell}: {changed}, {free} free")
 }
 
-pub(crate) fn pins(rt: &HostRuntime) -> io::Result<()> {
+pub(crate) fn pins(rt: &HostRuntime) -> Result<()> {
     // The free cells are 5 and 6.
     let mut layer = PinLayer::new(slab(4, 3, 0)?);
     for (cell, temperature) in [(12, 8), (5, 1_000_000_001), (0, 8), (5, 8), (5, 9)] {
@@ -40,12 +38,12 @@ pub(crate) fn pins(rt: &HostRuntime) -> io::Result<()> {
     let mut wide = PinLayer::new(slab(10, 10, 0)?);
     for row in 1..5 {
         for column in 1..9 {
-            granted(wide.pin(10 * row + column, 8))?;
+            wide.pin(10 * row + column, 8)?;
         }
     }
     pin(rt, &mut wide, 51, 8)?;
     release(rt, &mut wide, 11)?;
-    pin(rt, &mut wide, 51, 8)
+    Ok(pin(rt, &mut wide, 51, 8)?)
 }
 
 fn lose<G: Ground>(
@@ -54,20 +52,19 @@ fn lose<G: Ground>(
     cell: usize,
     weight: i64,
 ) -> io::Result<()> {
-    let heap = rt.alloc();
-    let answer = outcome(heap, layer.put(cell, weight))?;
-    let record = told::record(heap, layer.record(cell))?;
-    println!(rt; "loss {weight} at {cell}: {answer}; {record}")
+    let answer = layer.put(cell, weight);
+    let changed = Changed::new(answer, layer, cell);
+    println!(rt; "loss {weight} at {cell}: {changed}")
 }
 
-pub(crate) fn losses(rt: &HostRuntime) -> io::Result<()> {
+pub(crate) fn losses(rt: &HostRuntime) -> Result<()> {
     let mut layer = LossLayer::new(line(rt.alloc(), 17, 17)?);
     for cell in 0..16 {
-        granted(layer.put(cell, 5))?;
+        layer.put(cell, 5)?;
     }
     for (cell, weight) in [(16, 5), (3, 7), (15, 1000), (15, 1001)] {
         lose(rt, &mut layer, cell, weight)?;
     }
     let mut rim = LossLayer::new(slab(3, 3, 0)?);
-    lose(rt, &mut rim, 0, 9)
+    Ok(lose(rt, &mut rim, 0, 9)?)
 }

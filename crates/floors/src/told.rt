@@ -1,56 +1,63 @@
-use refusal::types::{Level, Refusal};
+use ground::ground::Ground;
+use refusal::types::Refusal;
 use section::types::Record;
-use std::alloc::{AllocError, Global};
-use std::io;
-use steps::report::Report;
+use std::fmt;
 
-// What a call gave that no case expects to be refused.
-pub(crate) fn granted<T: Drop>(answer: Result<T, Refusal>) -> io::Result<T> {
-    match answer {
-        Ok(value) => Ok(value),
-        Err(_) => Err(io::Error::from(io::ErrorKind::InvalidInput)),
+// A call that was refused, without the cause.
+#[derive(Clone, Copy)]
+pub(crate) struct Refused(pub(crate) Refusal);
+
+impl fmt::Display for Refused {
+    fn fmt<W: fmt::Write>(&self, f: &mut fmt::Formatter<W>) -> fmt::Result {
+        let number = self.0.number();
+        let place = self.0.place();
+        let level = self.0.level();
+        write!(f, "refused {number} at {place}, level {level}")
     }
 }
 
-pub(crate) fn refused(heap: Global, refusal: Refusal) -> Result<String, AllocError> {
-    let number = refusal.number();
-    let place = refusal.place();
-    let level = match refusal.level() {
-        Level::Call => "call",
-        Level::Table => "table",
-        Level::Walk => "walk",
-    };
-    format!(in heap; "refused {number} at {place}, level {level}")
-}
+// Whether a call was accepted.
+#[derive(Drop)]
+pub(crate) struct Outcome<T>(pub(crate) Result<T, Refusal>);
 
-pub(crate) fn outcome<T: Drop>(
-    heap: Global,
-    answer: Result<T, Refusal>,
-) -> Result<String, AllocError> {
-    match answer {
-        Ok(_) => format!(in heap; "accepted"),
-        Err(refusal) => refused(heap, refusal),
-    }
-}
-
-pub(crate) fn record(heap: Global, record: Record) -> Result<String, AllocError> {
-    match record {
-        Record::Free(free) => {
-            let loss = free.loss;
-            format!(in heap; "free with loss {loss}")
+impl<T> fmt::Display for Outcome<T> {
+    fn fmt<W: fmt::Write>(&self, f: &mut fmt::Formatter<W>) -> fmt::Result {
+        match &self.0 {
+            Ok(_) => f.write_str("accepted"),
+            Err(refusal) => Refused(*refusal).fmt(f),
         }
-        Record::Held(held) => {
-            let temperature = held.temperature;
-            format!(in heap; "held at {temperature}")
-        }
-        Record::Void => format!(in heap; "void"),
     }
 }
 
-pub(crate) fn report(heap: Global, report: Report) -> Result<String, AllocError> {
-    match report {
-        Report::Settled => format!(in heap; "settled"),
-        Report::Moving => format!(in heap; "moving"),
-        Report::NoneAt(cell) => format!(in heap; "none at {cell}"),
+// How a change to a cell of a ground came out, and what the cell is then.
+#[derive(Drop)]
+pub(crate) struct Changed {
+    outcome: Outcome<()>,
+    record: Record,
+}
+
+impl Changed {
+    pub(crate) fn new<G: Ground>(answer: Result<(), Refusal>, ground: &G, cell: usize) -> Changed {
+        Changed {
+            outcome: Outcome(answer),
+            record: ground.record(cell),
+        }
+    }
+}
+
+impl fmt::Display for Changed {
+    fn fmt<W: fmt::Write>(&self, f: &mut fmt::Formatter<W>) -> fmt::Result {
+        let outcome = &self.outcome;
+        match self.record {
+            Record::Free(free) => {
+                let loss = free.loss;
+                write!(f, "{outcome}; free with loss {loss}")
+            }
+            Record::Held(held) => {
+                let temperature = held.temperature;
+                write!(f, "{outcome}; held at {temperature}")
+            }
+            Record::Void => write!(f, "{outcome}; void"),
+        }
     }
 }

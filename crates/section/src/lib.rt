@@ -3,6 +3,7 @@
 
 pub mod limits;
 pub mod make;
+pub mod print;
 pub mod read;
 pub mod rows;
 pub mod types;

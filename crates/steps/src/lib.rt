@@ -1,6 +1,7 @@
 // The steps of the walks: relaxing temperatures, raising majorants and tightening brackets.
 #![tactic(auto)]
 
+pub mod print;
 pub mod raise;
 pub mod relax;
 pub mod report;

@@ -1,0 +1,12 @@
+use crate::report::Report;
+use std::fmt;
+
+impl fmt::Display for Report {
+    fn fmt<W: fmt::Write>(&self, f: &mut fmt::Formatter<W>) -> fmt::Result {
+        match self {
+            Report::Settled => f.write_str("settled"),
+            Report::Moving => f.write_str("moving"),
+            Report::NoneAt(cell) => write!(f, "none at {cell}"),
+        }
+    }
+}
