@@ -15,6 +15,12 @@ cells_is n i f c inner outer =
     (λ l. outer l ∙ sym (get_or_past (cells_of n f) i void (omega (arith, length_cells_of n f))))
     (cases_lt i n)
 
+pub cells_in : (n i : ℕ) (f : ℕ → Cell) (c : Cell) → i < n → c ≡ f i → c ≡ get_or (cells_of n f) i void
+cells_in n i f c l is = cells_is n i f c (λ k. is) (λ k. absurd (omega arith))
+
+pub cells_out : (n i : ℕ) (f : ℕ → Cell) → n ≤ i → void ≡ get_or (cells_of n f) i void
+cells_out n i f l = cells_is n i f void (λ k. absurd (omega arith)) (λ k. refl)
+
 counted_on : (test : ℕ → Bool) (i n : ℕ) → count_to test i + count_by test (range_with_len i n) ≡ count_to test (i + n)
 counted_on test i zero = let none : i + 0 ≡ i = omega arith in rw none (omega arith)
 counted_on test i (suc n) =

@@ -1,10 +1,6 @@
--- Numbers of a cell that grow with its place.
-use Rattle.std.proofs.Common.{◌≡◌, ℕ, zero, suc, ◌*◌, ◌/◌, ◌<◌, ◌≤◌, ℤ, pos, negsuc, ◌*ℤ◌, neg_ℤ, nat_abs, ◌≤ℤ◌, refl, div-lt_iff_lt-mul, mul-le-mul, arith, w64, SFits}
+-- The heat of a cell, which grows with its place.
+use Rattle.std.proofs.Common.{◌≡◌, ℕ, zero, suc, ◌*◌, ◌≤◌, ℤ, pos, negsuc, ◌*ℤ◌, neg_ℤ, nat_abs, ◌≤ℤ◌, refl, mul-le-mul, arith, w64, SFits}
 use Rattle.std.proofs.lemmas.Int.{ints}
-
--- an index inside has its row inside
-pub row-most : (w h i : ℕ) → 1 ≤ w → i < w * h → i / w < h
-row-most w h i least l = (div-lt_iff_lt-mul {k = w} least).1 (omega (arith, l))
 
 abs_neg : (n : ℕ) → nat_abs (neg_ℤ (pos n)) ≡ n
 abs_neg zero = refl

@@ -36,6 +36,7 @@ impl Ground for Listed {
         self.shape
     }
 
+    #[tactic(auto, using(crate::proofs::Plans::cells_in, crate::proofs::Plans::cells_out))]
     fn record(&self, index: usize) -> Record {
         if index < self.shape.cells() {
             Record::from(self.row(index))

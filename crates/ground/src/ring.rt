@@ -87,6 +87,7 @@ impl Ground for Ring {
         self.shape
     }
 
+    #[tactic(auto, using(crate::proofs::Plans::cells_in, crate::proofs::Plans::cells_out))]
     fn record(&self, index: usize) -> Record {
         if index < self.shape.cells() {
             self.cell(index)

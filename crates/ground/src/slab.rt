@@ -82,6 +82,7 @@ impl Ground for Slab {
         self.shape
     }
 
+    #[tactic(auto, using(crate::proofs::Plans::cells_in, crate::proofs::Plans::cells_out))]
     fn record(&self, index: usize) -> Record {
         if index < self.shape.cells() {
             self.cell(index)

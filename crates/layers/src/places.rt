@@ -2,7 +2,7 @@ ghost use Rattle.std.specs.Prelude.{◌≡◌, ℕ, true, false, is_some, None, 
 ghost use Rattle.layers.specs.Changes.{full, Entered, Removed};
 ghost use Rattle.layers.specs.Tables.{lookup, used};
 
-use crate::scan::{found, place_for, place_of};
+use crate::scan::{place_for, place_of};
 use crate::table::{Entry, Table};
 use refusal::types::TableFault;
 
@@ -24,7 +24,8 @@ impl<X: Copy, const N: usize> Table<X, N> {
     pub(crate) fn find(&self, cell: usize) -> Option<X>
         ensures { result ≡ lookup self.now.places cell }
     {
-        found(&self.places, cell)
+        let place = place_of(&self.places, cell)?;
+        self.places[place].map(|entry| entry.laid)
     }
 
     // Refused where the cell is listed.

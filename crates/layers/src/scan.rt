@@ -1,16 +1,8 @@
 ghost use Rattle.std.specs.Prelude.{◌≡◌, is_none, position};
 ghost use Rattle.std.specs.Option.{option_or};
-ghost use Rattle.layers.specs.Tables.{lists, lookup};
+ghost use Rattle.layers.specs.Tables.{lists};
 
 use crate::table::Entry;
-
-// What is listed for the cell.
-pub(crate) fn found<X: Copy>(places: &[Option<Entry<X>>], cell: usize) -> Option<X>
-    ensures { result ≡ lookup places.now cell }
-{
-    let place = place_of(places, cell)?;
-    places[place].map(|entry| entry.laid)
-}
 
 // The place that lists the cell.
 pub(crate) fn place_of<X: Copy>(places: &[Option<Entry<X>>], cell: usize) -> Option<usize>

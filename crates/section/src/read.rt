@@ -13,8 +13,7 @@ impl From<Row> for Record {
         match row {
             Row::Free(row) => FreeRecord::new(
                 row.north, row.west, row.east, row.south, row.loss, row.heat,
-            )
-            .map_or(Record::Void, Record::Free),
+            ).map_or(Record::Void, Record::Free),
             Row::Held(temperature) => {
                 HeldRecord::new(temperature).map_or(Record::Void, Record::Held)
             }

@@ -4,13 +4,6 @@ use Rattle.std.proofs.lemmas.Int.{to_z-of_z, to_z_pos, ints}
 use Rattle.ground.proofs.Radius.{heat-size, within-heat}
 use Rattle.ground.proofs.ring.Ring.heat.Goals as goal
 
-pub overflow_mul-result : goal.overflow_mul-result
-overflow_mul-result c =
-    let ring = c.args.self.now in
-    let fits-q : SFits w64 ring.q = omega (arith, ints) in
-    let part : c.args.part < 2 ^ hbits w64 = omega arith in
-    simp (to_z-of_z, to_z_pos) (within-heat _ (heat-size ring.q c.args.part ring.q_least ring.q_most c.requires)).0
-
 pub returns : goal.returns
 returns c =
     let ring = c.args.self.now in

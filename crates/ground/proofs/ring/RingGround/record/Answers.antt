@@ -1,9 +1,0 @@
-use Rattle.std.proofs.Common.{refl, arith}
-use Rattle.ground.proofs.Plans.{cells_is}
-use Rattle.ground.proofs.ring.RingGround.record.Goals as goal
-
-pub returns-then-index-cells : goal.returns-then-index-cells
-returns-then-index-cells c = cells_is _ _ _ _ (λ l. c.cell.ensures) (λ l. absurd (omega arith))
-
-pub returns-else-index-cells : goal.returns-else-index-cells
-returns-else-index-cells c = cells_is _ _ _ _ (λ l. absurd (omega arith)) (λ l. refl)
