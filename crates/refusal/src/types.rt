@@ -1,7 +1,7 @@
 // Why a call is refused.
 
 // A fault of a layer's table, at a cell.
-#[derive(Clone, Copy)]
+#[derive(Clone, Copy, Debug)]
 pub enum TableFault {
     PinnedAlready(usize),
     NoPin(usize),
@@ -9,13 +9,13 @@ pub enum TableFault {
 }
 
 // A fault met on a walk, at a cell.
-#[derive(Clone, Copy)]
+#[derive(Clone, Copy, Debug)]
 pub enum WalkFault {
     Crossed(usize),
 }
 
 // A fault of a call. A table's or a walk's fault is carried whole.
-#[derive(Clone, Copy)]
+#[derive(Clone, Copy, Debug)]
 pub enum Refusal {
     NoSuchCell(usize),
     NotFree(usize),
@@ -32,7 +32,7 @@ pub enum Refusal {
 }
 
 // Where a refusal arose.
-#[derive(Clone, Copy)]
+#[derive(Clone, Copy, Debug)]
 pub enum Level {
     Call,
     Table,
