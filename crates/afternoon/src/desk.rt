@@ -7,7 +7,7 @@ use replay::types::{Answer, Call, Event};
 use section::rows::{BracketRow, Majorant, Temperature};
 use section::types::Tolerance;
 use std::alloc::{AllocError, Global};
-use std::{iter, mem};
+use std::{io, iter, mem};
 use study::types::Study;
 
 // Tightening goes on in rounds; so many are never needed.
@@ -44,9 +44,8 @@ impl<'a, R: Print> Desk<'a, R> {
         })
     }
 
-    pub(crate) fn say(&self, text: &str) -> Result<()> {
-        println!(self.rt; "{text}")?;
-        Ok(())
+    pub(crate) fn say(&self, text: &str) -> io::Result<()> {
+        println!(self.rt; "{text}")
     }
 
     // Takes the grids of a call back.
@@ -65,8 +64,16 @@ impl<'a, R: Print> Desk<'a, R> {
         }
     }
 
-    // Replays a list of calls and tells what came of each, which for a call that answers nothing to
-    // print waits for the open count after it. Answers the open count at the end.
+    // Tells what a call did, with the open counts before and after it.
+    fn tell(&mut self, event: Event, before: usize, after: usize) -> io::Result<()> {
+        let (told, before, after) = (Told(&event), Thousands(before), Thousands(after));
+        println!(self.rt; "  {told}: {before} open before, {after} after")?;
+        self.keep(event.call);
+        Ok(())
+    }
+
+    // Replays a list of calls and tells what came of each: what a call asks for at once, and what it
+    // did once the open count after it is known. Answers the last open count.
     pub(crate) fn work(&mut self, calls: Vec<Call>) -> Result<usize> {
         let list = counted(self.heap, calls)?;
         let events = replay(self.heap, &mut self.study, &mut self.brackets, list)?;
@@ -76,46 +83,40 @@ impl<'a, R: Print> Desk<'a, R> {
             match event.answer {
                 Answer::OpenCount(after) => {
                     if let Some(event) = waiting.take() {
-                        let (told, before, now) = (Told(&event), Thousands(open), Thousands(after));
-                        println!(self.rt; "  {told}: {before} open before, {now} after")?;
-                        let Event { call, .. } = event;
-                        self.keep(call);
+                        self.tell(event, open, after)?;
                     }
                     open = after;
                 }
-                Answer::Bracket(_) | Answer::Finished(_) => println!(self.rt;
-                    "  {}",
-                    Told(&event)
-                )?,
+                Answer::Bracket(_) | Answer::Finished(_) => {
+                    println!(self.rt; "  {}", Told(&event))?;
+                }
                 _ => waiting = Some(event),
             }
         }
         Ok(open)
     }
 
-    // Makes one call.
+    // Makes one call. Answers the open count after it.
     pub(crate) fn make(&mut self, call: Call) -> Result<usize> {
         self.work(vec![in self.heap; call]?)
     }
 
-    pub(crate) fn relax(&mut self, walks: i64) -> Result<()> {
+    pub(crate) fn relax(&mut self, walks: i64) -> Result<usize> {
         let temperatures = mem::try_take(&mut self.temperatures)?;
         self.make(Call::Relax {
             temperatures,
             factor: 190,
             walks,
-        })?;
-        Ok(())
+        })
     }
 
-    pub(crate) fn raise(&mut self) -> Result<()> {
+    pub(crate) fn raise(&mut self) -> Result<usize> {
         let majorant = mem::try_take(&mut self.majorant)?;
         self.make(Call::Raise {
             majorant,
             margin: 10,
             walks: 5_000,
-        })?;
-        Ok(())
+        })
     }
 
     pub(crate) fn certify(&mut self) -> Result<Call> {
