@@ -64,6 +64,6 @@ fn row_of(cell: usize) -> Row {
 }
 
 pub(crate) fn floor(heap: Global) -> anyhow::Result<Listed> {
-    let shape = Shape::new(64, 64)?;
+    let shape = Shape::new(SIDE as i64, SIDE as i64)?;
     Ok(Listed::new(shape, (0..CELLS).map(row_of).collect(heap)?))
 }

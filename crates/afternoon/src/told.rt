@@ -146,7 +146,7 @@ impl Display for Told<'_> {
             (_, Answer::OpenCount(cells)) => write!(f, "{cells} open"),
             (_, Answer::Finished(true)) => f.write_str("finished: yes"),
             (_, Answer::Finished(false)) => f.write_str("finished: no"),
-            (call, _) => write!(f, "{}", Asked(call)),
+            _ => write!(f, "{}", Asked(call)),
         }
     }
 }

@@ -149,9 +149,10 @@ impl Trial {
             (Call::Bracket { cell }, Answer::Bracket(Ok(bracket))) => {
                 self.compare(tally, *cell, bracket.lo, bracket.hi)
             }
-            (_, Answer::Finished(finished))
-                if finished != (self.is_proved() && self.open.most() == 0) => {
-                add_one(&mut tally.wrong)
+            (_, Answer::Finished(finished)) => {
+                if finished != (self.is_proved() && self.open.most() == 0) {
+                    add_one(&mut tally.wrong);
+                }
             }
             _ => {}
         }
