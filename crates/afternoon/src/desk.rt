@@ -1,84 +1,51 @@
-use crate::floor::{SIDE, floor};
-use crate::reader::Reader;
+use crate::floor::{CELLS, floor};
+use crate::told::{Thousands, Told};
+use anyhow::Result;
 use ground::listed::Listed;
-use refusal::types::Refusal;
 use replay::replay::replay;
-use replay::types::{Call, Event};
+use replay::types::{Answer, Call, Event};
 use section::rows::{BracketRow, Majorant, Temperature};
 use section::types::Tolerance;
-use std::alloc::Global;
-use std::{io, mem};
+use std::alloc::{AllocError, Global};
+use std::{io, iter, mem};
 use study::types::Study;
 
-const CELLS: usize = SIDE * SIDE;
+// Tightening goes on in rounds; so many are never needed.
+const MOST_ROUNDS: usize = 50;
 
-// A study with the grids that its calls are passed.
+// A study with the grids that its calls are passed, and where its work is told.
 #[derive(Drop)]
-pub(crate) struct Desk {
+pub(crate) struct Desk<'a, R> {
+    rt: &'a R,
+    pub(crate) heap: Global,
     study: Study<Listed>,
     temperatures: Vec<Temperature>,
     majorant: Vec<Majorant>,
     brackets: Vec<BracketRow>,
 }
 
-fn granted<T: Drop>(answer: Result<T, Refusal>) -> io::Result<T> {
-    match answer {
-        Ok(value) => Ok(value),
-        Err(_) => Err(io::Error::from(io::ErrorKind::InvalidInput)),
-    }
-}
-
-fn found<T: Drop, E: Drop>(answer: Result<T, E>) -> io::Result<T> {
-    match answer {
-        Ok(value) => Ok(value),
-        Err(_) => Err(io::Error::from(io::ErrorKind::OutOfMemory)),
-    }
-}
-
 // The calls with the open count asked before, between and after them.
-fn counted(heap: Global, calls: Vec<Call>) -> io::Result<Vec<Call>> {
-    let mut list = Vec::new(heap);
-    found(list.push(Call::OpenCount))?;
-    for call in calls {
-        found(list.push(call))?;
-        found(list.push(Call::OpenCount))?;
-    }
-    Ok(list)
+fn counted(heap: Global, calls: Vec<Call>) -> Result<Vec<Call>, AllocError> {
+    let between = calls.into_iter().flat_map(|call| [call, Call::OpenCount]);
+    iter::once(Call::OpenCount).chain(between).collect(heap)
 }
 
-impl Desk {
-    pub(crate) fn new(heap: Global) -> io::Result<Desk> {
-        let floor = granted(floor(heap)?)?;
-        let tolerance = granted(Tolerance::new(2_000))?;
+impl<'a, R: Print> Desk<'a, R> {
+    pub(crate) fn new(rt: &'a R, heap: Global) -> Result<Desk<'a, R>> {
+        let floor = floor(heap)?;
+        let tolerance = Tolerance::new(2_000)?;
         Ok(Desk {
-            study: found(Study::new(heap, floor, tolerance))?,
+            rt,
+            heap,
+            study: Study::new(heap, floor, tolerance)?,
             temperatures: vec![in heap; Temperature { value: 0 }; CELLS]?,
             majorant: vec![in heap; Majorant { value: 0 }; CELLS]?,
             brackets: vec![in heap; BracketRow { lo: 0, hi: 0 }; CELLS]?,
         })
     }
 
-    pub(crate) fn relax(&mut self, heap: Global, factor: i64, walks: i64) -> Call {
-        Call::Relax {
-            temperatures: mem::replace(&mut self.temperatures, Vec::new(heap)),
-            factor,
-            walks,
-        }
-    }
-
-    pub(crate) fn raise(&mut self, heap: Global, margin: i64, walks: i64) -> Call {
-        Call::Raise {
-            majorant: mem::replace(&mut self.majorant, Vec::new(heap)),
-            margin,
-            walks,
-        }
-    }
-
-    pub(crate) fn certify(&mut self, heap: Global) -> Call {
-        Call::Certify {
-            temperatures: mem::replace(&mut self.temperatures, Vec::new(heap)),
-            majorant: mem::replace(&mut self.majorant, Vec::new(heap)),
-        }
+    pub(crate) fn say(&self, text: &str) -> io::Result<()> {
+        println!(self.rt; "{text}")
     }
 
     // Takes the grids of a call back.
@@ -97,17 +64,78 @@ impl Desk {
         }
     }
 
-    // Replays a list of calls and reads what came of each. Answers the open count after them.
-    pub(crate) fn work(&mut self, rt: &HostRuntime, calls: Vec<Call>) -> io::Result<usize> {
-        let heap = rt.alloc();
-        let list = counted(heap, calls)?;
-        let events = found(replay(heap, &mut self.study, &mut self.brackets, list))?;
-        let mut reader = Reader::new();
+    // Tells what a call did, with the open counts before and after it.
+    fn tell(&mut self, event: Event, before: usize, after: usize) -> io::Result<()> {
+        let (told, before, after) = (Told(&event), Thousands(before), Thousands(after));
+        println!(self.rt; "  {told}: {before} open before, {after} after")?;
+        self.keep(event.call);
+        Ok(())
+    }
+
+    // Replays a list of calls and tells what came of each: what a call asks for at once, and what it
+    // did once the open count after it is known. Answers the last open count.
+    pub(crate) fn work(&mut self, calls: Vec<Call>) -> Result<usize> {
+        let list = counted(self.heap, calls)?;
+        let events = replay(self.heap, &mut self.study, &mut self.brackets, list)?;
+        let mut open = 0;
+        let mut waiting = None;
         for event in events {
-            reader.read(rt, &event)?;
-            let Event { call, .. } = event;
-            self.keep(call);
+            match event.answer {
+                Answer::OpenCount(after) => {
+                    if let Some(event) = waiting.take() {
+                        self.tell(event, open, after)?;
+                    }
+                    open = after;
+                }
+                Answer::Bracket(_) | Answer::Finished(_) => {
+                    println!(self.rt; "  {}", Told(&event))?;
+                }
+                _ => waiting = Some(event),
+            }
         }
-        Ok(reader.open)
+        Ok(open)
+    }
+
+    // Makes one call. Answers the open count after it.
+    pub(crate) fn make(&mut self, call: Call) -> Result<usize> {
+        self.work(vec![in self.heap; call]?)
+    }
+
+    pub(crate) fn relax(&mut self, walks: i64) -> Result<usize> {
+        let temperatures = mem::try_take(&mut self.temperatures)?;
+        self.make(Call::Relax {
+            temperatures,
+            factor: 190,
+            walks,
+        })
+    }
+
+    pub(crate) fn raise(&mut self) -> Result<usize> {
+        let majorant = mem::try_take(&mut self.majorant)?;
+        self.make(Call::Raise {
+            majorant,
+            margin: 10,
+            walks: 5_000,
+        })
+    }
+
+    pub(crate) fn certify(&mut self) -> Result<Call> {
+        Ok(Call::Certify {
+            temperatures: mem::try_take(&mut self.temperatures)?,
+            majorant: mem::try_take(&mut self.majorant)?,
+        })
+    }
+
+    // Certifies, and tightens until no cell is open.
+    pub(crate) fn prove(&mut self) -> Result<()> {
+        let certify = self.certify()?;
+        let mut open = self.make(certify)?;
+        for _ in 0..MOST_ROUNDS {
+            if open == 0 {
+                break;
+            }
+            open = self.make(Call::Tighten { walks: 100 })?;
+        }
+        Ok(())
     }
 }

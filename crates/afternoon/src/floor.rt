@@ -1,12 +1,13 @@
 use ground::listed::Listed;
-use refusal::types::Refusal;
 use section::rows::{FreeRow, Row};
 use section::types::Shape;
-use std::alloc::{AllocError, Global};
+use std::alloc::Global;
 
-pub(crate) const SIDE: usize = 64;
+const SIDE: usize = 64;
 
-const LAST: usize = 63;
+pub(crate) const CELLS: usize = SIDE * SIDE;
+
+const LAST: usize = SIDE - 1;
 
 const FOAM_LAST: usize = 6;
 
@@ -19,8 +20,12 @@ const SOIL: i64 = 8_000_000;
 
 const BESIDE: i64 = 4_000_000;
 
-pub(crate) fn place(row: usize, column: usize) -> usize {
-    row.wrapping_mul(SIDE).wrapping_add(column)
+pub(crate) fn cell_at(row: u8, column: u8) -> usize {
+    usize::from(row) * SIDE + usize::from(column)
+}
+
+pub(crate) fn row_and_column(cell: usize) -> (usize, usize) {
+    (cell / SIDE, cell % SIDE)
 }
 
 // Foam conducts a quarter of what concrete and soil do.
@@ -49,32 +54,16 @@ fn inside(above: usize, row: usize, column: usize) -> Row {
     })
 }
 
-fn cell(row: usize, column: usize) -> Row {
-    if row == 0 {
-        Row::Held(ROOM)
-    } else if row == LAST {
-        Row::Held(SOIL)
-    } else if column == 0 || column == LAST {
-        Row::Held(BESIDE)
-    } else {
-        inside(row - 1, row, column)
+fn row_of(cell: usize) -> Row {
+    match row_and_column(cell) {
+        (0, _) => Row::Held(ROOM),
+        (LAST, _) => Row::Held(SOIL),
+        (_, 0 | LAST) => Row::Held(BESIDE),
+        (row, column) => inside(row - 1, row, column),
     }
 }
 
-fn rows(heap: Global) -> Result<Vec<Row>, AllocError> {
-    let mut rows = Vec::new(heap);
-    for row in 0..SIDE {
-        for column in 0..SIDE {
-            rows.push(cell(row, column))?;
-        }
-    }
-    Ok(rows)
-}
-
-pub(crate) fn floor(heap: Global) -> Result<Result<Listed, Refusal>, AllocError> {
-    let rows = rows(heap)?;
-    Ok(match Shape::new(64, 64) {
-        Ok(shape) => Ok(Listed::new(shape, rows)),
-        Err(refusal) => Err(refusal),
-    })
+pub(crate) fn floor(heap: Global) -> anyhow::Result<Listed> {
+    let shape = Shape::new(SIDE as i64, SIDE as i64)?;
+    Ok(Listed::new(shape, (0..CELLS).map(row_of).collect(heap)?))
 }

@@ -1,197 +1,152 @@
-use crate::floor::SIDE;
+// What came of a call, in a planner's words.
+use crate::floor::row_and_column;
 use refusal::types::Refusal;
 use replay::types::{Answer, Call, Event};
-use section::types::Bracket;
-use std::alloc::{AllocError, Global};
+use std::fmt;
+use std::fmt::{Display, Formatter};
 use steps::report::{Raised, Report};
-use study::types::Certificate;
 
-pub(crate) fn count(heap: Global, number: usize) -> Result<String, AllocError> {
-    let thousands = number / 1000;
-    let rest = number % 1000;
-    if thousands == 0 {
-        return format!(in heap; "{rest}");
+// A number with a comma before its last three digits.
+#[derive(Clone, Copy)]
+pub(crate) struct Thousands(pub(crate) usize);
+
+impl Display for Thousands {
+    fn fmt<W: fmt::Write>(&self, f: &mut Formatter<W>) -> fmt::Result {
+        let (thousands, rest) = (self.0 / 1000, self.0 % 1000);
+        if thousands == 0 {
+            return write!(f, "{rest}");
+        }
+        write!(f, "{thousands},{rest:03}")
     }
-    format!(in heap; "{thousands},{rest:03}")
 }
 
-// A temperature in degrees, to the last millionth.
-fn degrees(heap: Global, temperature: i64) -> Result<String, AllocError> {
-    let sign = if temperature < 0 { "-" } else { "" };
-    let size = temperature.unsigned_abs();
-    let whole = size / 1_000_000;
-    let part = size % 1_000_000;
-    let tenths = part / 100_000;
-    if part % 100_000 == 0 {
-        return format!(in heap; "{sign}{whole}.{tenths}");
+// A temperature, written in degrees to the last millionth.
+#[derive(Clone, Copy)]
+struct Degrees(i64);
+
+impl Display for Degrees {
+    fn fmt<W: fmt::Write>(&self, f: &mut Formatter<W>) -> fmt::Result {
+        let sign = if self.0 < 0 { "-" } else { "" };
+        let size = self.0.unsigned_abs();
+        let (whole, part) = (size / 1_000_000, size % 1_000_000);
+        let tenths = part / 100_000;
+        if part % 100_000 == 0 {
+            return write!(f, "{sign}{whole}.{tenths}");
+        }
+        write!(f, "{sign}{whole}.{part:06}")
     }
-    format!(in heap; "{sign}{whole}.{part:06}")
 }
 
-fn at(heap: Global, cell: usize) -> Result<String, AllocError> {
-    let row = cell / SIDE;
-    let column = cell % SIDE;
-    format!(in heap; "row {row}, column {column}")
+// A cell by its row and column.
+#[derive(Clone, Copy)]
+struct Place(usize);
+
+impl Display for Place {
+    fn fmt<W: fmt::Write>(&self, f: &mut Formatter<W>) -> fmt::Result {
+        let (row, column) = row_and_column(self.0);
+        write!(f, "row {row}, column {column}")
+    }
+}
+
+// The walks that were made, with the cells changed in the last.
+#[derive(Clone, Copy)]
+struct Walks((usize, usize));
+
+impl Display for Walks {
+    fn fmt<W: fmt::Write>(&self, f: &mut Formatter<W>) -> fmt::Result {
+        let (walks, changed) = self.0;
+        let (walks, changed) = (Thousands(walks), Thousands(changed));
+        write!(f, "{walks} walks ({changed} cells in the last)")
+    }
 }
 
 // What a call was to do.
-fn asked(heap: Global, call: &Call) -> Result<String, AllocError> {
-    match call {
-        Call::Relax { .. } => format!(in heap; "relaxing"),
-        Call::Raise { .. } => format!(in heap; "raising the majorant"),
-        Call::Certify { .. } => format!(in heap; "certifying"),
-        Call::Tighten { .. } => format!(in heap; "tightening"),
-        Call::Pin { cell, .. } => {
-            let place = at(heap, *cell)?;
-            format!(in heap; "pinning {place}")
+#[derive(Clone, Copy)]
+struct Asked<'a>(&'a Call);
+
+impl Display for Asked<'_> {
+    fn fmt<W: fmt::Write>(&self, f: &mut Formatter<W>) -> fmt::Result {
+        match self.0 {
+            Call::Relax { .. } => f.write_str("relaxing"),
+            Call::Raise { .. } => f.write_str("raising the majorant"),
+            Call::Certify { .. } => f.write_str("certifying"),
+            Call::Tighten { .. } => f.write_str("tightening"),
+            Call::Pin { cell, .. } => write!(f, "pinning {}", Place(*cell)),
+            Call::Release { cell } => write!(f, "releasing {}", Place(*cell)),
+            Call::Bracket { cell } => write!(f, "asking for {}", Place(*cell)),
+            Call::OpenCount => f.write_str("counting"),
+            Call::Finished => f.write_str("asking for the end"),
         }
-        Call::Release { cell } => {
-            let place = at(heap, *cell)?;
-            format!(in heap; "releasing {place}")
-        }
-        Call::Bracket { cell } => {
-            let place = at(heap, *cell)?;
-            format!(in heap; "asking for {place}")
-        }
-        Call::OpenCount => format!(in heap; "counting"),
-        Call::Finished => format!(in heap; "asking for the end"),
     }
 }
 
-fn refused(heap: Global, call: &Call, refusal: Refusal) -> Result<String, AllocError> {
-    let asked = asked(heap, call)?;
-    let number = refusal.number();
-    let cause = refusal.cause();
+fn refused<W: fmt::Write>(f: &mut Formatter<W>, call: &Call, refusal: Refusal) -> fmt::Result {
+    let (asked, number, cause) = (Asked(call), refusal.number(), Refusal::cause(refusal));
+    write!(f, "{asked} is refused ({number}): {cause}")?;
     match refusal {
-        Refusal::Margin(cell) => {
-            let place = at(heap, cell)?;
-            format!(in heap; "{asked} is refused ({number}): {cause} at {place}")
-        }
-        _ => format!(in heap; "{asked} is refused ({number}): {cause}"),
+        Refusal::Margin(cell) => write!(f, " at {}", Place(cell)),
+        _ => Ok(()),
     }
 }
 
-fn raised(heap: Global, raised: Raised) -> Result<String, AllocError> {
-    let (walks, changed) = raised.counts;
-    let walks = count(heap, walks)?;
-    let changed = count(heap, changed)?;
+fn raised<W: fmt::Write>(f: &mut Formatter<W>, raised: Raised) -> fmt::Result {
+    let (begun, _) = raised.counts;
+    let (begun, walks) = (Thousands(begun), Walks(raised.counts));
     match raised.report {
-        Report::Settled => format!(in heap; "raised the majorant, settled after {walks} walks"),
-        Report::Moving => format!(in heap;
-            "raised the majorant, still moving after {walks} walks ({changed} cells in the last)"
-        ),
+        Report::Settled => write!(f, "raised the majorant, settled after {begun} walks"),
+        Report::Moving => write!(f, "raised the majorant, still moving after {walks}"),
         Report::NoneAt(cell) => {
-            let place = at(heap, cell)?;
-            format!(in heap; "raised no majorant: none at {place} on walk {walks}")
+            let place = Place(cell);
+            write!(f, "raised no majorant: none at {place} on walk {begun}")
         }
     }
 }
 
-fn certified(heap: Global, certificate: Certificate) -> Result<String, AllocError> {
-    let rest = certificate.rest;
-    let margin = certificate.margin;
-    format!(in heap; "certified with rest {rest} over margin {margin}")
+fn refusal_of(answer: Answer) -> Option<Refusal> {
+    match answer {
+        Answer::Relaxed(Err(refusal))
+        | Answer::Raised(Err(refusal))
+        | Answer::Certified(Err(refusal))
+        | Answer::Tightened(Err(refusal))
+        | Answer::Pinned(Err(refusal))
+        | Answer::Released(Err(refusal))
+        | Answer::Bracket(Err(refusal)) => Some(refusal),
+        _ => None,
+    }
 }
 
-fn walked(heap: Global, verb: &str, counts: (usize, usize)) -> Result<String, AllocError> {
-    let (walks, changed) = counts;
-    let walks = count(heap, walks)?;
-    let changed = count(heap, changed)?;
-    format!(in heap; "{verb} in {walks} walks ({changed} cells in the last)")
-}
+// What a call did and answered.
+#[derive(Clone, Copy)]
+pub(crate) struct Told<'a>(pub(crate) &'a Event);
 
-fn between(heap: Global, cell: usize, bracket: Bracket) -> Result<String, AllocError> {
-    let place = at(heap, cell)?;
-    let lo = degrees(heap, bracket.lo)?;
-    let hi = degrees(heap, bracket.hi)?;
-    format!(in heap; "{place}: {lo} to {hi} degrees")
-}
-
-// What a call did that was accepted and answers nothing more.
-fn done(heap: Global, call: &Call) -> Result<String, AllocError> {
-    match call {
-        Call::Pin { cell, temperature } => {
-            let place = at(heap, *cell)?;
-            let held = degrees(heap, *temperature)?;
-            format!(in heap; "pinned {place} at {held} degrees")
+impl Display for Told<'_> {
+    fn fmt<W: fmt::Write>(&self, f: &mut Formatter<W>) -> fmt::Result {
+        let call = &self.0.call;
+        let answer = self.0.answer;
+        if let Some(refusal) = refusal_of(answer) {
+            return refused(f, call, refusal);
         }
-        Call::Release { cell } => {
-            let place = at(heap, *cell)?;
-            format!(in heap; "released {place}")
-        }
-        call => asked(heap, call),
-    }
-}
-
-fn altered(heap: Global, call: &Call, answer: Result<(), Refusal>) -> Result<String, AllocError> {
-    match answer {
-        Ok(()) => done(heap, call),
-        Err(refusal) => refused(heap, call, refusal),
-    }
-}
-
-fn walks_of(
-    heap: Global,
-    call: &Call,
-    verb: &str,
-    answer: Result<(usize, usize), Refusal>,
-) -> Result<String, AllocError> {
-    match answer {
-        Ok(counts) => walked(heap, verb, counts),
-        Err(refusal) => refused(heap, call, refusal),
-    }
-}
-
-fn majorant_of(
-    heap: Global,
-    call: &Call,
-    answer: Result<Raised, Refusal>,
-) -> Result<String, AllocError> {
-    match answer {
-        Ok(report) => raised(heap, report),
-        Err(refusal) => refused(heap, call, refusal),
-    }
-}
-
-fn certificate_of(
-    heap: Global,
-    call: &Call,
-    answer: Result<Certificate, Refusal>,
-) -> Result<String, AllocError> {
-    match answer {
-        Ok(certificate) => certified(heap, certificate),
-        Err(refusal) => refused(heap, call, refusal),
-    }
-}
-
-fn bracket_of(
-    heap: Global,
-    call: &Call,
-    answer: Result<Bracket, Refusal>,
-) -> Result<String, AllocError> {
-    match answer {
-        Ok(bracket) => match call {
-            Call::Bracket { cell } => between(heap, *cell, bracket),
-            call => asked(heap, call),
-        },
-        Err(refusal) => refused(heap, call, refusal),
-    }
-}
-
-pub(crate) fn event_text(heap: Global, event: &Event) -> Result<String, AllocError> {
-    let call = &event.call;
-    match event.answer {
-        Answer::Relaxed(answer) => walks_of(heap, call, "relaxed", answer),
-        Answer::Raised(answer) => majorant_of(heap, call, answer),
-        Answer::Certified(answer) => certificate_of(heap, call, answer),
-        Answer::Tightened(answer) => walks_of(heap, call, "tightened", answer),
-        Answer::Pinned(answer) => altered(heap, call, answer),
-        Answer::Released(answer) => altered(heap, call, answer),
-        Answer::Bracket(answer) => bracket_of(heap, call, answer),
-        Answer::OpenCount(cells) => format!(in heap; "{cells} open"),
-        Answer::Finished(finished) => {
-            let said = if finished { "yes" } else { "no" };
-            format!(in heap; "finished: {said}")
+        match (call, answer) {
+            (_, Answer::Relaxed(Ok(counts))) => write!(f, "relaxed in {}", Walks(counts)),
+            (_, Answer::Tightened(Ok(counts))) => write!(f, "tightened in {}", Walks(counts)),
+            (_, Answer::Raised(Ok(report))) => raised(f, report),
+            (_, Answer::Certified(Ok(certificate))) => {
+                let (rest, margin) = (certificate.rest, certificate.margin);
+                write!(f, "certified with rest {rest} over margin {margin}")
+            }
+            (Call::Pin { cell, temperature }, _) => {
+                let (place, held) = (Place(*cell), Degrees(*temperature));
+                write!(f, "pinned {place} at {held} degrees")
+            }
+            (Call::Release { cell }, _) => write!(f, "released {}", Place(*cell)),
+            (Call::Bracket { cell }, Answer::Bracket(Ok(bracket))) => {
+                let (place, lo, hi) = (Place(*cell), Degrees(bracket.lo), Degrees(bracket.hi));
+                write!(f, "{place}: {lo} to {hi} degrees")
+            }
+            (_, Answer::OpenCount(cells)) => write!(f, "{cells} open"),
+            (_, Answer::Finished(true)) => f.write_str("finished: yes"),
+            (_, Answer::Finished(false)) => f.write_str("finished: no"),
+            _ => write!(f, "{}", Asked(call)),
         }
     }
 }

@@ -64,10 +64,10 @@ impl Desk {
     // A call at random, with a cell for it if it takes one.
     pub(crate) fn call(&self, dice: &mut Dice, cell: usize) -> Result<Call, AllocError> {
         Ok(match dice.below(20) {
-            0 | 1 | 2 => self.relax(dice)?,
-            3 | 4 | 5 => self.raise(dice)?,
-            6 | 7 | 8 | 9 => self.certify(dice)?,
-            10 | 11 | 12 => Call::Tighten {
+            0..=2 => self.relax(dice)?,
+            3..=5 => self.raise(dice)?,
+            6..=9 => self.certify(dice)?,
+            10..=12 => Call::Tighten {
                 walks: dice.mostly(1, 20, 0),
             },
             13 => Call::Pin {
@@ -75,7 +75,7 @@ impl Desk {
                 temperature: dice.mostly(-40_000_000, 40_000_000, 1_000_000_001),
             },
             14 => Call::Release { cell },
-            15 | 16 | 17 => Call::Bracket { cell },
+            15..=17 => Call::Bracket { cell },
             18 => Call::OpenCount,
             _ => Call::Finished,
         })

@@ -26,24 +26,16 @@ impl Floor {
     }
 
     pub(crate) fn row(&self, cell: usize) -> Row {
-        match self.rows.get(cell) {
-            Some(row) => *row,
-            None => Row::Void,
-        }
+        self.rows.get(cell).copied().unwrap_or(Row::Void)
     }
 
     pub(crate) fn is_free(&self, cell: usize) -> bool {
         matches!(self.row(cell), Row::Free(_))
     }
 
-    pub(crate) fn free_cells(&self, heap: Global) -> Result<Vec<usize>, AllocError> {
-        let mut cells = Vec::new(heap);
-        for cell in 0..self.cells() {
-            if self.is_free(cell) {
-                cells.push(cell)?;
-            }
-        }
-        Ok(cells)
+    pub(crate) fn free_count(&self) -> usize {
+        let free = self.rows.iter().filter(|row| matches!(row, Row::Free(_)));
+        free.count()
     }
 
     pub(crate) fn set(&mut self, cell: usize, row: Row) {

@@ -8,36 +8,17 @@ mod exact;
 mod floor;
 mod make;
 mod piles;
+mod series;
 mod tally;
 mod trial;
 
-use dice::Dice;
 use make::{listed, ring, slab};
-use piles::pile;
-use std::io;
-use tally::Tally;
+use series::Series;
 
-const STUDIES: usize = 200;
-
-fn main(rt: HostRuntime) -> io::Result<()> {
-    let heap = rt.alloc();
-    let mut dice = Dice::new(1);
-    let mut tally = Tally::default();
-    for _ in 0..STUDIES {
-        let made = slab(heap, &mut dice)?;
-        pile(heap, &mut dice, &mut tally, made)?;
-    }
-    tally.print(&rt, "slab")?;
-    tally = Tally::default();
-    for _ in 0..STUDIES {
-        let made = ring(heap, &mut dice)?;
-        pile(heap, &mut dice, &mut tally, made)?;
-    }
-    tally.print(&rt, "ring")?;
-    tally = Tally::default();
-    for _ in 0..STUDIES {
-        let made = listed(heap, &mut dice)?;
-        pile(heap, &mut dice, &mut tally, made)?;
-    }
-    tally.print(&rt, "listed")
+fn main(rt: HostRuntime) -> anyhow::Result<()> {
+    let mut series = Series::new(rt.alloc());
+    println!(rt; "slab: {}", series.run(slab)?)?;
+    println!(rt; "ring: {}", series.run(ring)?)?;
+    println!(rt; "listed: {}", series.run(listed)?)?;
+    Ok(())
 }

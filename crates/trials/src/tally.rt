@@ -1,4 +1,4 @@
-use std::io;
+use std::fmt;
 
 // What was done and found on one kind of ground.
 #[derive(Default, Drop)]
@@ -18,25 +18,20 @@ pub(crate) fn add_one(count: &mut usize) {
     *count = count.saturating_add(1);
 }
 
-// What no trial goes without.
-pub(crate) fn found<T: Drop, E: Drop>(answer: Result<T, E>) -> io::Result<T> {
-    match answer {
-        Ok(value) => Ok(value),
-        Err(_) => Err(io::Error::from(io::ErrorKind::InvalidInput)),
-    }
-}
-
-impl Tally {
-    pub(crate) fn print(&self, rt: &HostRuntime, kind: &str) -> io::Result<()> {
-        println!(rt;
-            "{kind}: {} studies, {} calls, {} refused, {} certificates accepted",
+impl fmt::Display for Tally {
+    fn fmt<W: fmt::Write>(&self, f: &mut fmt::Formatter<W>) -> fmt::Result {
+        writeln!(
+            f,
+            "{} studies, {} calls, {} refused, {} certificates accepted",
             self.studies, self.calls, self.refused, self.certificates
         )?;
-        println!(rt;
+        writeln!(
+            f,
             "  {} brackets compared, {} passed over",
             self.compared, self.passed_over
         )?;
-        println!(rt;
+        write!(
+            f,
             "  outside: {}, widened: {}, wrong counts: {}",
             self.outside, self.widened, self.wrong
         )

@@ -1,13 +1,44 @@
 use crate::exact::Exact;
 use crate::floor::Floor;
+use crate::series::Series;
 use crate::tally::{Tally, add_one};
 use refusal::types::Refusal;
 use replay::types::{Answer, Call, Event};
 use section::rows::{BracketRow, Row};
-use section::types::Bracket;
 use std::alloc::{AllocError, Global};
 
 const WIDEST: i64 = 2_000_000_000;
+
+// Whether brackets are proved, and since when.
+#[derive(Clone, Copy, PartialEq, Eq)]
+enum State {
+    Unproved,
+    Proved,
+    // Without a break since the last look at the grid.
+    ProvedSinceLook,
+}
+
+// The open count. Where brackets have changed since it was known, it can only have fallen.
+#[derive(Clone, Copy)]
+enum Open {
+    Exactly(usize),
+    AtMost(usize),
+}
+
+impl Open {
+    fn most(self) -> usize {
+        match self {
+            Open::Exactly(cells) | Open::AtMost(cells) => cells,
+        }
+    }
+
+    fn may_be(self, open: usize) -> bool {
+        match self {
+            Open::Exactly(cells) => open == cells,
+            Open::AtMost(cells) => open <= cells,
+        }
+    }
+}
 
 // What must hold of a study, followed from its events alone.
 #[derive(Drop)]
@@ -15,12 +46,8 @@ pub(crate) struct Trial {
     floor: Floor,
     tolerance: i64,
     exact: Option<Exact>,
-    proved: bool,
-    // Proved without a break since the last look at the grid.
-    stayed: bool,
-    // The open count. Where brackets have changed since, it can only have fallen.
-    open: usize,
-    counted: bool,
+    state: State,
+    open: Open,
 }
 
 // The ends of a bracket as the grid is read.
@@ -32,14 +59,16 @@ fn read(row: BracketRow) -> (i64, i64) {
 }
 
 fn is_refused(answer: Answer) -> bool {
-    match answer {
-        Answer::Relaxed(answer) | Answer::Tightened(answer) => answer.is_err(),
-        Answer::Raised(answer) => answer.is_err(),
-        Answer::Certified(answer) => answer.is_err(),
-        Answer::Pinned(answer) | Answer::Released(answer) => answer.is_err(),
-        Answer::Bracket(answer) => answer.is_err(),
-        Answer::OpenCount(_) | Answer::Finished(_) => false,
-    }
+    matches!(
+        answer,
+        Answer::Relaxed(Err(_))
+            | Answer::Raised(Err(_))
+            | Answer::Certified(Err(_))
+            | Answer::Tightened(Err(_))
+            | Answer::Pinned(Err(_))
+            | Answer::Released(Err(_))
+            | Answer::Bracket(Err(_))
+    )
 }
 
 impl Trial {
@@ -48,12 +77,14 @@ impl Trial {
         Ok(Trial {
             tolerance,
             exact: Exact::new(heap, &floor)?,
-            proved: false,
-            stayed: false,
-            open: floor.free_cells(heap)?.len(),
-            counted: true,
+            state: State::Unproved,
+            open: Open::Exactly(floor.free_count()),
             floor,
         })
+    }
+
+    fn is_proved(&self) -> bool {
+        self.state != State::Unproved
     }
 
     fn compare(&self, tally: &mut Tally, cell: usize, lo: i64, hi: i64) {
@@ -61,7 +92,7 @@ impl Trial {
             None => add_one(&mut tally.passed_over),
             Some(exact) => {
                 add_one(&mut tally.compared);
-                if !self.proved || !exact.lies(cell, lo, hi) {
+                if !self.is_proved() || !exact.lies(cell, lo, hi) {
                     add_one(&mut tally.outside);
                 }
             }
@@ -69,17 +100,22 @@ impl Trial {
     }
 
     fn count(&mut self, tally: &mut Tally, open: usize) {
-        if open > self.open || (self.counted && open != self.open) {
+        if !self.open.may_be(open) {
             add_one(&mut tally.wrong);
         }
-        self.open = open;
-        self.counted = true;
+        self.open = Open::Exactly(open);
+    }
+
+    fn changed(&mut self) {
+        self.open = Open::AtMost(self.open.most());
     }
 
     fn certified(&mut self, tally: &mut Tally, open: usize) {
         add_one(&mut tally.certificates);
-        self.proved = true;
-        self.counted = false;
+        if !self.is_proved() {
+            self.state = State::Proved;
+        }
+        self.changed();
         self.count(tally, open);
     }
 
@@ -91,38 +127,32 @@ impl Trial {
             _ => {}
         }
         self.exact = Exact::new(heap, &self.floor)?;
-        self.open = self.floor.free_cells(heap)?.len();
-        self.proved = false;
-        self.stayed = false;
-        self.counted = true;
+        self.state = State::Unproved;
+        self.open = Open::Exactly(self.floor.free_count());
         Ok(())
     }
 
-    fn answered(&self, tally: &mut Tally, call: &Call, answer: Result<Bracket, Refusal>) {
-        if let (Call::Bracket { cell }, Ok(bracket)) = (call, answer) {
-            self.compare(tally, *cell, bracket.lo, bracket.hi);
-        }
-    }
-
     // A tightening that is stopped on its walk has changed brackets too.
-    pub(crate) fn read(
-        &mut self,
-        heap: Global,
-        tally: &mut Tally,
-        event: &Event,
-    ) -> Result<(), AllocError> {
+    pub(crate) fn read(&mut self, series: &mut Series, event: &Event) -> Result<(), AllocError> {
+        let tally = &mut series.tally;
         add_one(&mut tally.calls);
         if is_refused(event.answer) {
             add_one(&mut tally.refused);
         }
-        match event.answer {
-            Answer::Certified(Ok(certificate)) => self.certified(tally, certificate.open),
-            Answer::Tightened(Ok(_) | Err(Refusal::Walk(_))) => self.counted = false,
-            Answer::OpenCount(open) => self.count(tally, open),
-            Answer::Pinned(Ok(())) | Answer::Released(Ok(())) => self.altered(heap, &event.call)?,
-            Answer::Bracket(answer) => self.answered(tally, &event.call, answer),
-            Answer::Finished(finished) if finished != (self.proved && self.open == 0) => {
-                add_one(&mut tally.wrong)
+        match (&event.call, event.answer) {
+            (_, Answer::Certified(Ok(certificate))) => self.certified(tally, certificate.open),
+            (_, Answer::Tightened(Ok(_) | Err(Refusal::Walk(_)))) => self.changed(),
+            (_, Answer::OpenCount(open)) => self.count(tally, open),
+            (call, Answer::Pinned(Ok(())) | Answer::Released(Ok(()))) => {
+                self.altered(series.heap, call)?
+            }
+            (Call::Bracket { cell }, Answer::Bracket(Ok(bracket))) => {
+                self.compare(tally, *cell, bracket.lo, bracket.hi)
+            }
+            (_, Answer::Finished(finished)) => {
+                if finished != (self.is_proved() && self.open.most() == 0) {
+                    add_one(&mut tally.wrong);
+                }
             }
             _ => {}
         }
@@ -134,7 +164,7 @@ impl Trial {
         let (lowest, highest) = read(old);
         let (lo, hi) = read(new);
         self.compare(tally, cell, lo, hi);
-        if self.stayed && (lo < lowest || hi > highest) {
+        if self.state == State::ProvedSinceLook && (lo < lowest || hi > highest) {
             add_one(&mut tally.widened);
         }
         hi.saturating_sub(lo) > self.tolerance
@@ -142,7 +172,7 @@ impl Trial {
 
     // Looks at the grid of brackets before and after a list of calls.
     pub(crate) fn look(&mut self, tally: &mut Tally, before: &[BracketRow], after: &[BracketRow]) {
-        if !self.proved {
+        if !self.is_proved() {
             return;
         }
         let mut open = 0;
@@ -152,6 +182,6 @@ impl Trial {
             }
         }
         self.count(tally, open);
-        self.stayed = true;
+        self.state = State::ProvedSinceLook;
     }
 }
