@@ -69,7 +69,7 @@ impl Rim {
     }
 
     fn floor(self, heap: Global) -> Result<Floor, AllocError> {
-        let cells = 0..self.shape.cells();
+        let cells = 0..self.shape.wide * self.shape.high;
         let rows = cells.map(|cell| self.row(cell)).collect(heap)?;
         Ok(Floor::new(heap, self.shape.wide, rows))
     }
