@@ -1,3 +1,4 @@
 pub mod Limits
 pub mod Plan
+pub mod Printed
 pub mod Reading

@@ -1,3 +1,4 @@
 pub mod Steps
 pub mod AtSites
 pub mod Tightening
+pub mod Printed
