@@ -1,4 +1,3 @@
-ghost use Rattle.std.specs.Prelude.{◌≡◌};
 ghost use Rattle.layers.specs.Layers.{laid_plan};
 
 use crate::laid::Laid;
@@ -18,18 +17,6 @@ pub type PinLayer<G> = Layer<G, Table<HeldRecord, 32>>;
 
 // The ground below with the loss weights of some free cells replaced.
 pub type LossLayer<G> = Layer<G, Table<Loss, 16>>;
-
-impl<G, T: Default> Layer<G, T> {
-    pub fn new(below: G) -> Self
-        ensures empty { T.is_default result.table }
-        ensures kept { result.below ≡ below }
-    {
-        Layer {
-            below,
-            table: T::default(),
-        }
-    }
-}
 
 impl<G: Ground, T: Laid> Ground for Layer<G, T> {
     ghost plan = { λ s. laid_plan (T.Laid.laying s.table) (G.Ground.plan s.below) };

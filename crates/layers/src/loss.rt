@@ -1,10 +1,10 @@
 ghost use Rattle.std.specs.Prelude.{◌≡◌, ℕ, ◌+◌, is_some, if◌then◌else◌, Some, None, unsigned_abs};
 ghost use Rattle.refusal.specs.Refusals.{answer, answer_of, unless_refused};
 ghost use Rattle.layers.specs.Layers.{altered, losing, loss_at, loss_check};
-ghost use Rattle.layers.specs.Tables.{used};
+ghost use Rattle.layers.specs.Tables.{lookup, used};
 
 use crate::laid::Laid;
-use crate::layer::LossLayer;
+use crate::layer::{Layer, LossLayer};
 use crate::table::{Loss, Table};
 use ground::ground::Ground;
 use refusal::types::Refusal;
@@ -25,6 +25,19 @@ impl Laid for Table<Loss, 16> {
                 heat: c.heat,
             }),
             _ => below,
+        }
+    }
+}
+
+impl<G> LossLayer<G> {
+    pub fn new(below: G) -> LossLayer<G>
+        ensures losses { (j : ℕ) → lookup result.table.places j ≡ None }
+        ensures count { used result.table.places ≡ 0 }
+        ensures kept { result.below ≡ below }
+    {
+        Layer {
+            below,
+            table: Table::new(),
         }
     }
 }

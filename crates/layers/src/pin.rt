@@ -5,7 +5,7 @@ ghost use Rattle.layers.specs.Layers.{altered, over, pin_check, pinned_at, relea
 ghost use Rattle.layers.specs.Tables.{lookup, used};
 
 use crate::laid::Laid;
-use crate::layer::PinLayer;
+use crate::layer::{Layer, PinLayer};
 use crate::table::Table;
 use ground::ground::Ground;
 use refusal::types::Refusal;
@@ -17,6 +17,19 @@ impl Laid for Table<HeldRecord, 32> {
 
     fn lay_over(&self, index: usize, below: Record) -> Record {
         self.find(index).map_or(below, Record::Held)
+    }
+}
+
+impl<G> PinLayer<G> {
+    pub fn new(below: G) -> PinLayer<G>
+        ensures pins { (j : ℕ) → lookup result.table.places j ≡ None }
+        ensures count { used result.table.places ≡ 0 }
+        ensures kept { result.below ≡ below }
+    {
+        Layer {
+            below,
+            table: Table::new(),
+        }
     }
 }
 

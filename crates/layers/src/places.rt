@@ -6,14 +6,6 @@ use crate::scan::{place_for, place_of};
 use crate::table::{Entry, Table};
 use refusal::types::TableFault;
 
-impl<X: Copy, const N: usize> Default for Table<X, N> {
-    ghost is_default = { λ t. ((j : ℕ) → lookup t.places j ≡ None) × (used t.places ≡ 0) };
-
-    fn default() -> Self {
-        Table::new()
-    }
-}
-
 impl<X: Copy, const N: usize> Table<X, N> {
     pub(crate) fn new() -> Table<X, N>
         ensures { ((j : ℕ) → lookup result.places j ≡ None) × (used result.places ≡ 0) }
