@@ -1,5 +1,5 @@
 -- What has happened to a study, and what that says of it.
-use Rattle.std.specs.Prelude.{ℕ, ◌+◌, ◌-◌, Bool, true, false, cond, ◌&&◌, List, [], ◌∷◌, ℤ, Some, None, Option, int_lt}
+use Rattle.std.specs.Prelude.{ℕ, ◌+◌, ◌-◌, Bool, true, false, if◌then◌else◌, ◌&&◌, List, [], ◌∷◌, ℤ, Some, None, Option, int_lt}
 use Rattle.refusal.specs.Refusals.{Answer, accepted, refused}
 use Rattle.section.specs.Plan.{Plan, size, is_free_at, count_to}
 use Rattle.section.specs.Reading.{brackets}
@@ -104,7 +104,7 @@ grid_by bs (e ∷ h) = grid_after e (grid_by bs h)
 
 -- the bracket of a free cell, which it has while the study is proved
 abbrev pub bracket_by : List BracketRow → History → ℕ → Option BracketRow
-bracket_by bs h i = cond (proved_by h) (Some (brackets (grid_by bs h) i)) None
+bracket_by bs h i = if proved_by h then Some (brackets (grid_by bs h) i) else None
 
 -- a cell with no bracket, or one wider than the tolerance, is open
 abbrev pub is_wide : ℤ → Option BracketRow → Bool

@@ -1,5 +1,5 @@
 -- The law over any list of calls.
-use Rattle.std.specs.Prelude.{◌≡◌, ℕ, Bool, ◌&&◌, T, List, [], ◌∷◌, ◌++◌, ℤ, ◌≤ℤ◌, unsigned_abs}
+use Rattle.std.specs.Prelude.{◌≡◌, ℕ, Bool, ◌&&◌, IsTrue, List, [], ◌∷◌, ◌++◌, ℤ, ◌≤ℤ◌, unsigned_abs}
 use Rattle.refusal.specs.Refusals.{accepted, refused}
 use Rattle.section.specs.Plan.{Plan, Free}
 use Rattle.section.specs.Reading.{brackets}
@@ -40,8 +40,8 @@ module _ (base : Plan) (tolerance : ℤ) (bs : List BracketRow) where
 
   -- at a point of the history: while the study is proved every exact solution of the equations lies within the brackets, and over any stretch through which it stays proved no bracket widens
   pub record Lawful (h : History) : Type 0 where
-    pub holds : T (proved_by h) → Bracketed (equations base h) (brackets (grid_by bs h))
-    pub narrows : (recent past : History) → h ≡ recent ++ past → T (proved_through recent past) → NoWider (equations base h) (grid_by bs past) (grid_by bs h)
+    pub holds : IsTrue (proved_by h) → Bracketed (equations base h) (brackets (grid_by bs h))
+    pub narrows : (recent past : History) → h ≡ recent ++ past → IsTrue (proved_through recent past) → NoWider (equations base h) (grid_by bs past) (grid_by bs h)
     pub newest : NewestTrue h
 
 -- At every point of every history, for any ground, tolerance and bracket grid at the start.

@@ -1,17 +1,14 @@
 -- A host at work: what lies on its desk, what it can do, what it is told and what lies there afterwards.
-use Rattle.std.specs.Prelude.{ℕ, Bool, true, false, ◌&&◌, List, [], ◌∷◌, length, replicate, ℤ, pos, None, slice_index_or, slice_set}
+use Rattle.std.specs.Prelude.{ℕ, Bool, List, [], ◌∷◌, length, replicate, ℤ, pos, None, slice_index_or, slice_set}
 use Rattle.refusal.specs.Refusals.{Answer, answer}
 use Rattle.refusal.specs.declared.types.Level.{Level}
-use Rattle.refusal.specs.declared.types.Level.TheVariants.{Call, Table, Walk}
 use Rattle.section.specs.Plan.{Plan, Cell, free, held, void, size, at, diag}
 use Rattle.section.specs.Reading.{temperatures, majorants, brackets, widest}
 use Rattle.section.specs.declared.rows.BracketRow.{BracketRow}
 use Rattle.section.specs.declared.rows.Temperature.{Temperature}
 use Rattle.section.specs.declared.rows.Majorant.{Majorant}
 use Rattle.layers.specs.Layers.{holding, pin_checks, release_checks}
-use Rattle.steps.specs.Steps.{same}
 use Rattle.steps.specs.declared.report.Report.{Report}
-use Rattle.steps.specs.declared.report.Report.TheVariants.{Settled, Moving, NoneAt}
 use Rattle.study.specs.Calls.{Standing, Pinning, pinning, anew, pin_leaves, release_leaves, is_finished, relax_answer, relax_grid, raise_answer, raise_grid, certify_answer, certify_grid, certify_standing, tighten_answer, tighten_grid, tighten_standing, ask_check}
 
 -- a study of a ground at a tolerance, with its pins and how it stands, and the host's three grids
@@ -142,40 +139,11 @@ after d (majorant_at i) = d
 after d (bracket_at i) = d
 after d (weights_at i) = d
 
--- A reply as plain numbers, its kind first: replies are equal where these are.
-abbrev level_number : Level → ℤ
-level_number Call = pos 0
-level_number Table = pos 1
-level_number Walk = pos 2
-
-abbrev report_numbers : Report → List ℤ
-report_numbers Settled = pos 0 ∷ []
-report_numbers Moving = pos 1 ∷ []
-report_numbers (NoneAt i) = pos 2 ∷ pos i ∷ []
-
-abbrev plain : Reply → List ℤ
-plain (counts n c) = pos 0 ∷ pos n ∷ pos c ∷ []
-plain (raised r n c) = pos 1 ∷ pos n ∷ pos c ∷ report_numbers r
-plain (certificate r m o) = pos 2 ∷ pos r ∷ pos m ∷ pos o ∷ []
-plain (bracket lo hi) = pos 3 ∷ lo ∷ hi ∷ []
-plain (number z) = pos 4 ∷ z ∷ []
-plain (weights n w e s d) = pos 5 ∷ pos n ∷ pos w ∷ pos e ∷ pos s ∷ pos d ∷ []
-plain (refused l k i) = pos 6 ∷ level_number l ∷ pos k ∷ pos i ∷ []
-plain done = pos 7 ∷ []
-plain (said true) = pos 8 ∷ pos 1 ∷ []
-plain (said false) = pos 8 ∷ pos 0 ∷ []
-
-abbrev equal : List ℤ → List ℤ → Bool
-equal [] [] = true
-equal [] (y ∷ ys) = false
-equal (x ∷ xs) [] = false
-equal (x ∷ xs) (y ∷ ys) = same x y && equal xs ys
-
 infix 70 ◌gives◌
 abbrev pub ◌gives◌ : Act → Reply → Act × Reply
 a gives r = (a, r)
 
--- whether a host that does one act after the other is told what is expected each time
-abbrev pub right : Desk → List (Act × Reply) → Bool
-right d [] = true
-right d (x ∷ xs) = equal (plain (reply d x.0)) (plain x.1) && right (after d x.0) xs
+-- what a host is told that does one act after the other
+abbrev pub replies : Desk → List (Act × Reply) → List Reply
+replies d [] = []
+replies d (x ∷ xs) = reply d x.0 ∷ replies (after d x.0) xs
