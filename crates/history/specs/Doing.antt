@@ -1,5 +1,5 @@
 -- What each call answers and leaves, by the history before it: refused for the first cause in its order, and otherwise what is defined.
-use Rattle.std.specs.Prelude.{◌≡◌, if◌then◌else◌, ◌&&◌, List, [], ◌∷◌, length, ℤ, ◌==◌}
+use Rattle.std.specs.Prelude.{◌≡◌, if◌then◌else◌, ◌&&◌, List, [], ◌∷◌, length, ℤ, ◌==◌, ⊤}
 use Rattle.refusal.specs.Refusals.{answer}
 use Rattle.section.specs.Plan.{Plan}
 use Rattle.section.specs.Reading.{brackets}
@@ -28,5 +28,5 @@ module _ (base : Plan) (tolerance : ℤ) (bs : List BracketRow) where
 
   -- every event of a history, by the history before it
   abbrev pub Done : History → Type 0
-  Done [] = Unit {0}
+  Done [] = ⊤
   Done (e ∷ h) = Does e h × Done h

@@ -1,5 +1,5 @@
 -- What a call is passed, and the event of a history that it makes with what came of it.
-use Rattle.std.specs.Prelude.{◌≡◌, ℕ, List, [], ◌∷◌, ℤ, pos, Ok, Err, vec_items, Result}
+use Rattle.std.specs.Prelude.{◌≡◌, ℕ, List, [], ◌∷◌, ℤ, pos, Ok, Err, vec_items, Result, ⊤}
 use Rattle.refusal.specs.Refusals.{Answer, accepted, refused, answer_of, fault_of}
 use Rattle.refusal.specs.declared.types.Refusal.{Refusal}
 use Rattle.section.specs.Plan.{Plan}
@@ -49,8 +49,8 @@ ComesBack (Tighten n) (Tighten n') (Tightened r) = n' ≡ n
 ComesBack (Pin i t) (Pin i' t') (Pinned r) = (i' ≡ i) × (t' ≡ t)
 ComesBack (Release i) (Release i') (Released r) = i' ≡ i
 ComesBack (Ask i) (Ask i') (Asked r) = i' ≡ i
-ComesBack OpenCount OpenCount (Counted n) = Unit {0}
-ComesBack Finished Finished (SaidFinished b) = Unit {0}
+ComesBack OpenCount OpenCount (Counted n) = ⊤
+ComesBack Finished Finished (SaidFinished b) = ⊤
 ComesBack _ _ _ = ⊥
 
 -- an event hands its call back
@@ -59,7 +59,7 @@ Handed c e = ComesBack c e.call e.answer
 
 -- one event for each call, in order
 abbrev pub AllHanded : List Call → List Event → Type 0
-AllHanded [] [] = Unit {0}
+AllHanded [] [] = ⊤
 AllHanded (c ∷ cs) (e ∷ es) = Handed c e × AllHanded cs es
 AllHanded _ _ = ⊥
 

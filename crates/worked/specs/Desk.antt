@@ -9,7 +9,7 @@ use Rattle.section.specs.declared.rows.Temperature.{Temperature}
 use Rattle.section.specs.declared.rows.Majorant.{Majorant}
 use Rattle.layers.specs.Layers.{holding, pin_checks, release_checks}
 use Rattle.steps.specs.declared.report.Report.{Report}
-use Rattle.study.specs.Calls.{Standing, Pinning, pinning, anew, pin_leaves, release_leaves, is_finished, relax_answer, relax_grid, raise_answer, raise_grid, certify_answer, certify_grid, certify_standing, tighten_answer, tighten_grid, tighten_standing, ask_check}
+use Rattle.study.specs.Calls.{Standing, Pinning, anew, pin_leaves, release_leaves, is_finished, relax_answer, relax_grid, raise_answer, raise_grid, certify_answer, certify_grid, certify_standing, tighten_answer, tighten_grid, tighten_standing, ask_check}
 
 -- a study of a ground at a tolerance, with its pins and how it stands, and the host's three grids
 pub record Desk : Type 0 where
@@ -106,38 +106,24 @@ reply d (majorant_at i) = number (majorants d.ws i)
 reply d (bracket_at i) = row (slice_index_or d.bs i widest)
 reply d (weights_at i) = weighed (at (plan d) i) (diag (plan d) i)
 
--- what a call alters: a grid of temperatures, a majorant, brackets and how they stand, or the pins
-abbrev with_us : Desk → List Temperature → Desk
-with_us d us = record { base = d.base; tolerance = d.tolerance; pinned = d.pinned; us = us; ws = d.ws; bs = d.bs }
-
-abbrev with_ws : Desk → List Majorant → Desk
-with_ws d ws = record { base = d.base; tolerance = d.tolerance; pinned = d.pinned; us = d.us; ws = ws; bs = d.bs }
-
+-- brackets as they are left, and how they stand
 abbrev with_bs : Desk → Standing → List BracketRow → Desk
-with_bs d k bs = record { base = d.base; tolerance = d.tolerance; pinned = pinning d.pinned.pins d.pinned.count k; us = d.us; ws = d.ws; bs = bs }
+with_bs d k bs = record d { pinned = record d.pinned { stands = k }; bs = bs }
 
-abbrev with_pins : Desk → Pinning → Desk
-with_pins d x = record { base = d.base; tolerance = d.tolerance; pinned = x; us = d.us; ws = d.ws; bs = d.bs }
-
+-- what an act leaves behind; a question leaves all as it was
 abbrev pub after : Desk → Act → Desk
-after d (relax k n) = with_us d (relax_grid (plan d) d.us (pos k) (pos n))
-after d (raise g n) = with_ws d (raise_grid (plan d) d.ws (pos g) (pos n))
+after d (relax k n) = record d { us = relax_grid (plan d) d.us (pos k) (pos n) }
+after d (raise g n) = record d { ws = raise_grid (plan d) d.ws (pos g) (pos n) }
 after d certify =
     with_bs d (certify_standing (plan d) d.tolerance (stands d) d.us d.ws d.bs) (certify_grid (plan d) (stands d).state d.us d.ws d.bs)
 after d (tighten n) =
     with_bs d (tighten_standing (plan d) d.tolerance (stands d) d.bs (pos n)) (tighten_grid (plan d) (stands d).state d.bs (pos n))
-after d (ask i) = d
-after d (pin i t) = with_pins d (pin_leaves d.base d.pinned i t)
-after d (release i) = with_pins d (release_leaves d.base d.pinned i)
-after d ask_open_count = d
-after d ask_finished = d
-after d (put_temperature i t) = with_us d (slice_set d.us i (record { value = t }))
-after d (put_majorant i w) = with_ws d (slice_set d.ws i (record { value = w }))
-after d (put_bracket i lo hi) = with_bs d (stands d) (slice_set d.bs i (record { lo = lo; hi = hi }))
-after d (temperature_at i) = d
-after d (majorant_at i) = d
-after d (bracket_at i) = d
-after d (weights_at i) = d
+after d (pin i t) = record d { pinned = pin_leaves d.base d.pinned i t }
+after d (release i) = record d { pinned = release_leaves d.base d.pinned i }
+after d (put_temperature i t) = record d { us = slice_set d.us i (record { value = t }) }
+after d (put_majorant i w) = record d { ws = slice_set d.ws i (record { value = w }) }
+after d (put_bracket i lo hi) = record d { bs = slice_set d.bs i (record { lo = lo; hi = hi }) }
+after d _ = d
 
 infix 70 ◌gives◌
 abbrev pub ◌gives◌ : Act → Reply → Act × Reply
