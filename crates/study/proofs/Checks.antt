@@ -18,6 +18,7 @@ module _ {X : Type 0} where
   refused_is clear f x e = cc
   refused_is (refuse g) f x e = cc
 
-  pub accepted_is : (k : Check) (x y : X) → accepted x ≡ answer k y → (k ≡ clear) × (x ≡ y)
-  accepted_is clear x y e = (refl, cc)
-  accepted_is (refuse f) x y e = (cc, cc)
+  -- an accepted call was checked clear, and answers what is defined
+  pub accepted_is : (k : Check) {x y : X} → accepted x ≡ answer k y → (k ≡ clear) × (x ≡ y)
+  accepted_is clear e = (refl, cc)
+  accepted_is (refuse f) e = (cc, cc)
