@@ -17,7 +17,8 @@ use Rattle.laws.proofs.Raise.{raising_law}
 use Rattle.study.specs.Calls.{length_check, walks, margin, raise_check, raise_answer, raise_grid, basis_of, certify_check, certify_answer, certify_grid}
 use Rattle.study.specs.declared.types.Certificate.{Certificate}
 use Rattle.study.specs.declared.types.State.{State}
-use Rattle.history.proofs.Checks.{accepted_is, length_is, some_is}
+use Rattle.study.proofs.Checks.{accepted_is}
+use Rattle.history.proofs.Checks.{length_is, some_is}
 
 -- a certificate whose checks are clear
 pub certify_leaves :

@@ -61,8 +61,10 @@ module _ (ground : Plan) (tolerance : ℤ) (bs : List BracketRow) where
   -- every point, with its whole past behind it
   lawful : (h : History) → Done ground tolerance bs h → Lawful ground tolerance bs h
   lawful h d = record {
-    holds = holds_at h d;
-    narrows = λ recent past e t. subst (λ x. NoWider (equations ground x) (grid_by bs past) (grid_by bs x)) (sym e) (narrows-over recent past (subst (Done ground tolerance bs) e d) t);
+    holds = λ t. holds_at h d (subst T (sym t) tt);
+    narrows = λ recent past e t.
+        subst (λ x. NoWider (equations ground x) (grid_by bs past) (grid_by bs x)) (sym e)
+        (narrows-over recent past (subst (Done ground tolerance bs) e d) (subst T (sym t) tt));
     newest = newest-at h d;
   }
 

@@ -12,7 +12,7 @@ use Rattle.laws.specs.Tightening.{Tightened}
 use Rattle.laws.proofs.Tighten.{untouched, tightening_law}
 use Rattle.study.specs.Calls.{basis_of, certify_check, tighten_check}
 use Rattle.study.specs.declared.types.State.TheVariants.{Unproved, Proved}
-use Rattle.history.specs.Events.{Event, relaxed, raised, certified, tightened, pinned, released, asked, counted, finished, History, equations, proved_by, grid_by}
+use Rattle.history.specs.Events.{Event, raised, certified, tightened, pinned, released, History, equations, proved_by, grid_by}
 use Rattle.history.specs.Doing.{state_by, Does}
 use Rattle.history.specs.Law.{NoWider, AnswersTruly}
 use Rattle.history.proofs.Calls.{certify_leaves, accepted_leaves, accepted-counts, raise_tells}
@@ -56,8 +56,6 @@ module _ (ground : Plan) (tolerance : ℤ) (bs : List BracketRow) where
 
   -- an event after which the study is proved
   pub step : (e : Event) (h : History) → Does ground tolerance bs e h → T (proved_by (e ∷ h)) → Step h (equations ground (e ∷ h)) (grid_by bs (e ∷ h))
-  step (relaxed us k n a vs) h d t = same h t
-  step (raised ws g n a vs) h d t = same h t
   step (certified us ws (accepted c) after) h d t =
       (refl, rw d.1 (accepted_leaves (equations ground h) tolerance (state_by h) us ws (grid_by bs h) c d.0))
   step (certified us ws (refused f) after) h d t =
@@ -78,24 +76,12 @@ module _ (ground : Plan) (tolerance : ℤ) (bs : List BracketRow) where
             (λ e. passes p before ran (proved_by h) t (tightening_law p (nat_abs n) before))),
       )
   step (pinned i x (accepted y)) h d t = absurd t
-  step (pinned i x (refused f)) h d t = same h t
   step (released i (accepted y)) h d t = absurd t
-  step (released i (refused f)) h d t = same h t
-  step (asked i a) h d t = same h t
-  step (counted n) h d t = same h t
-  step (finished b) h d t = same h t
+  step _ h d t = same h t
 
   -- every answer is true
   pub answers : (e : Event) (h : History) → Does ground tolerance bs e h → AnswersTruly ground tolerance bs e h
   answers (certified us ws (accepted c) after) h d =
       rw d.1 (accepted-counts (equations ground h) tolerance (state_by h) us ws (grid_by bs h) c d.0)
   answers (raised ws g n (accepted r) after) h d = rw d.1 (raise_tells (equations ground h) ws g n r d.0)
-  answers (certified us ws (refused f) after) h d = tt
-  answers (raised ws g n (refused f) after) h d = tt
-  answers (relaxed us k n a vs) h d = tt
-  answers (tightened n a after) h d = tt
-  answers (pinned i x a) h d = tt
-  answers (released i a) h d = tt
-  answers (asked i a) h d = tt
-  answers (counted n) h d = tt
-  answers (finished b) h d = tt
+  answers _ h d = tt

@@ -1,5 +1,5 @@
 -- What each call answers and leaves, by the history before it: refused for the first cause in its order, and otherwise what is defined.
-use Rattle.std.specs.Prelude.{◌≡◌, cond, ◌&&◌, List, [], ◌∷◌, length, ℤ, ◌==◌}
+use Rattle.std.specs.Prelude.{◌≡◌, if◌then◌else◌, ◌&&◌, List, [], ◌∷◌, length, ℤ, ◌==◌, ⊤}
 use Rattle.refusal.specs.Refusals.{answer}
 use Rattle.section.specs.Plan.{Plan}
 use Rattle.section.specs.Reading.{brackets}
@@ -11,7 +11,7 @@ use Rattle.study.specs.declared.types.State.TheVariants.{Unproved, Proved}
 use Rattle.history.specs.Events.{Event, relaxed, raised, certified, tightened, pinned, released, asked, counted, finished, History, held_by, pins_by, equations, proved_by, grid_by, open_by}
 
 abbrev pub state_by : History → State
-state_by h = cond (proved_by h) Proved Unproved
+state_by h = if proved_by h then Proved else Unproved
 
 module _ (base : Plan) (tolerance : ℤ) (bs : List BracketRow) where
   abbrev pub Does : Event → History → Type 0
@@ -28,5 +28,5 @@ module _ (base : Plan) (tolerance : ℤ) (bs : List BracketRow) where
 
   -- every event of a history, by the history before it
   abbrev pub Done : History → Type 0
-  Done [] = Unit {0}
+  Done [] = ⊤
   Done (e ∷ h) = Does e h × Done h

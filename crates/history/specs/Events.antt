@@ -1,6 +1,6 @@
 -- What has happened to a study, and what that says of it.
-use Rattle.std.specs.Prelude.{ℕ, ◌+◌, ◌-◌, Bool, true, false, cond, ◌&&◌, List, [], ◌∷◌, ℤ, Some, None, Option, int_lt}
-use Rattle.refusal.specs.Refusals.{Answer, accepted, refused}
+use Rattle.std.specs.Prelude.{ℕ, ◌+◌, ◌-◌, Bool, true, false, if◌then◌else◌, ◌&&◌, List, [], ◌∷◌, ℤ, Some, None, Option, int_lt}
+use Rattle.refusal.specs.Refusals.{Answer, accepted}
 use Rattle.section.specs.Plan.{Plan, size, is_free_at, count_to}
 use Rattle.section.specs.Reading.{brackets}
 use Rattle.section.specs.declared.rows.BracketRow.{BracketRow}
@@ -31,15 +31,7 @@ History = List Event
 abbrev pub held_after : Event → (ℕ → Option ℤ) → ℕ → Option ℤ
 held_after (pinned i t (accepted x)) before = altered before i (Some t)
 held_after (released i (accepted x)) before = altered before i None
-held_after (pinned i t (refused f)) before = before
-held_after (released i (refused f)) before = before
-held_after (relaxed us k n a vs) before = before
-held_after (raised us g n a vs) before = before
-held_after (certified us ws a bs) before = before
-held_after (tightened n a bs) before = before
-held_after (asked i a) before = before
-held_after (counted n) before = before
-held_after (finished b) before = before
+held_after _ before = before
 
 abbrev pub held_by : History → ℕ → Option ℤ
 held_by [] = λ i. None
@@ -53,15 +45,7 @@ equations base h = holding base (held_by h)
 abbrev pub pins_after : Event → ℕ → ℕ
 pins_after (pinned i t (accepted x)) n = n + 1
 pins_after (released i (accepted x)) n = n - 1
-pins_after (pinned i t (refused f)) n = n
-pins_after (released i (refused f)) n = n
-pins_after (relaxed us k m a vs) n = n
-pins_after (raised us g m a vs) n = n
-pins_after (certified us ws a bs) n = n
-pins_after (tightened m a bs) n = n
-pins_after (asked i a) n = n
-pins_after (counted m) n = n
-pins_after (finished b) n = n
+pins_after _ n = n
 
 abbrev pub pins_by : History → ℕ
 pins_by [] = 0
@@ -70,17 +54,9 @@ pins_by (e ∷ h) = pins_after e (pins_by h)
 -- Proved: a certificate was accepted, and no pin or release has been accepted since.
 abbrev pub proved_after : Event → Bool → Bool
 proved_after (certified us ws (accepted c) bs) before = true
-proved_after (certified us ws (refused f) bs) before = before
 proved_after (pinned i t (accepted x)) before = false
-proved_after (pinned i t (refused f)) before = before
 proved_after (released i (accepted x)) before = false
-proved_after (released i (refused f)) before = before
-proved_after (relaxed us k n a vs) before = before
-proved_after (raised us g n a vs) before = before
-proved_after (tightened n a bs) before = before
-proved_after (asked i a) before = before
-proved_after (counted n) before = before
-proved_after (finished b) before = before
+proved_after _ before = before
 
 abbrev pub proved_by : History → Bool
 proved_by [] = false
@@ -90,13 +66,7 @@ proved_by (e ∷ h) = proved_after e (proved_by h)
 abbrev pub grid_after : Event → List BracketRow → List BracketRow
 grid_after (certified us ws a after) before = after
 grid_after (tightened n a after) before = after
-grid_after (pinned i t a) before = before
-grid_after (released i a) before = before
-grid_after (relaxed us k n a vs) before = before
-grid_after (raised us g n a vs) before = before
-grid_after (asked i a) before = before
-grid_after (counted n) before = before
-grid_after (finished b) before = before
+grid_after _ before = before
 
 abbrev pub grid_by : List BracketRow → History → List BracketRow
 grid_by bs [] = bs
@@ -104,7 +74,7 @@ grid_by bs (e ∷ h) = grid_after e (grid_by bs h)
 
 -- the bracket of a free cell, which it has while the study is proved
 abbrev pub bracket_by : List BracketRow → History → ℕ → Option BracketRow
-bracket_by bs h i = cond (proved_by h) (Some (brackets (grid_by bs h) i)) None
+bracket_by bs h i = if proved_by h then Some (brackets (grid_by bs h) i) else None
 
 -- a cell with no bracket, or one wider than the tolerance, is open
 abbrev pub is_wide : ℤ → Option BracketRow → Bool

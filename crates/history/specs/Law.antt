@@ -1,12 +1,12 @@
 -- The law over any list of calls.
-use Rattle.std.specs.Prelude.{◌≡◌, ℕ, Bool, ◌&&◌, T, List, [], ◌∷◌, ◌++◌, ℤ, ◌≤ℤ◌, unsigned_abs}
-use Rattle.refusal.specs.Refusals.{accepted, refused}
+use Rattle.std.specs.Prelude.{◌≡◌, ℕ, Bool, ◌&&◌, IsTrue, List, [], ◌∷◌, ◌++◌, ℤ, ◌≤ℤ◌, unsigned_abs, ⊤}
+use Rattle.refusal.specs.Refusals.{accepted}
 use Rattle.section.specs.Plan.{Plan, Free}
 use Rattle.section.specs.Reading.{brackets}
 use Rattle.section.specs.declared.rows.BracketRow.{BracketRow}
 use Rattle.laws.specs.Exact.{Bracketed}
 use Rattle.laws.specs.Raising.{Told}
-use Rattle.history.specs.Events.{Event, relaxed, raised, certified, tightened, pinned, released, asked, counted, finished, History, equations, proved_by, grid_by, open_by}
+use Rattle.history.specs.Events.{Event, raised, certified, History, equations, proved_by, grid_by, open_by}
 use Rattle.history.specs.Doing.{Done}
 
 -- proved before the recent events, and after each of them
@@ -24,24 +24,16 @@ module _ (base : Plan) (tolerance : ℤ) (bs : List BracketRow) where
   abbrev pub AnswersTruly : Event → History → Type 0
   AnswersTruly (certified us ws (accepted c) after) h = c.«open» ≡ open_by base tolerance bs (certified us ws (accepted c) after ∷ h)
   AnswersTruly (raised ws g n (accepted r) after) h = Told (equations base h) (unsigned_abs g) after r.report
-  AnswersTruly (certified us ws (refused f) after) h = Unit {0}
-  AnswersTruly (raised ws g n (refused f) after) h = Unit {0}
-  AnswersTruly (relaxed us k n a vs) h = Unit {0}
-  AnswersTruly (tightened n a after) h = Unit {0}
-  AnswersTruly (pinned i t a) h = Unit {0}
-  AnswersTruly (released i a) h = Unit {0}
-  AnswersTruly (asked i a) h = Unit {0}
-  AnswersTruly (counted n) h = Unit {0}
-  AnswersTruly (finished b) h = Unit {0}
+  AnswersTruly _ h = ⊤
 
   abbrev pub NewestTrue : History → Type 0
-  NewestTrue [] = Unit {0}
+  NewestTrue [] = ⊤
   NewestTrue (e ∷ h) = AnswersTruly e h
 
   -- at a point of the history: while the study is proved every exact solution of the equations lies within the brackets, and over any stretch through which it stays proved no bracket widens
   pub record Lawful (h : History) : Type 0 where
-    pub holds : T (proved_by h) → Bracketed (equations base h) (brackets (grid_by bs h))
-    pub narrows : (recent past : History) → h ≡ recent ++ past → T (proved_through recent past) → NoWider (equations base h) (grid_by bs past) (grid_by bs h)
+    pub holds : IsTrue (proved_by h) → Bracketed (equations base h) (brackets (grid_by bs h))
+    pub narrows : (recent past : History) → h ≡ recent ++ past → IsTrue (proved_through recent past) → NoWider (equations base h) (grid_by bs past) (grid_by bs h)
     pub newest : NewestTrue h
 
 -- At every point of every history, for any ground, tolerance and bracket grid at the start.

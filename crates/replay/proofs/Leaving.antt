@@ -1,5 +1,6 @@
 -- What each call leaves and answers is what its event says.
 use Rattle.std.proofs.Common.{◌≡◌, ℕ, ◌+◌, ◌-◌, Bool, true, false, cond, ◌&&◌, List, ◌∷◌, ℤ, Some, None, Ok, Err, Result, sym, refl, ap, ◌∙◌}
+use Rattle.std.proofs.Math.Bool.{and-true}
 use mathlib.Core.Path.{fun_ext}
 use Rattle.refusal.specs.Refusals.{Check, clear, refuse, ◌then◌, answer, unless_refused, Checked}
 use Rattle.refusal.specs.declared.types.Refusal.{Refusal}
@@ -19,12 +20,8 @@ use Rattle.replay.specs.Calls.{bracket_answer}
 use Rattle.replay.proofs.Leading.{standing_by, pinning_by}
 
 -- where nothing is proved every free cell is open
-and_true : (b : Bool) → (b && true) ≡ b
-and_true true = refl
-and_true false = refl
-
 all_open : (p : Plan) → count_to (λ i. is_free_at p i && true) (size p) ≡ free_count p
-all_open p = ap (λ test. count_to test (size p)) (fun_ext (λ i. and_true (is_free_at p i)))
+all_open p = ap (λ test. count_to test (size p)) (fun_ext (λ i. and-true (is_free_at p i)))
 
 module _ (ground : Plan) (tolerance : ℤ) (start : List BracketRow) (h : History) where
   pub certify-stands :

@@ -22,19 +22,14 @@ use Rattle.study.specs.declared.types.State.{State}
 use Rattle.study.specs.declared.types.Study.{Study}
 use Rattle.history.specs.Doing.{state_by, Does}
 use Rattle.history.specs.Events.{Event as Happened, certified, tightened, pinned, released, History, held_by, pins_by, equations, proved_by, grid_by}
-use Rattle.replay.specs.Calls.{call_kind, answer_kind, Handed, passed, happened}
+use Rattle.replay.specs.Calls.{Handed, passed, happened}
 use Rattle.replay.specs.Replays.{Led, Made}
 use Rattle.replay.specs.declared.types.Call.{Call}
 use Rattle.replay.specs.declared.types.Call.TheVariants.{Relax, Raise, Certify, Tighten, Pin, Release, Bracket as Ask}
-use Rattle.replay.specs.declared.types.Answer.{Answer as Told}
 use Rattle.replay.specs.declared.types.Answer.TheVariants.{Relaxed, Raised, Certified, Tightened, Pinned, Released, Bracket as Asked}
 use Rattle.replay.specs.declared.types.Event.{Event}
 use Rattle.replay.proofs.Leading.{ap3, ap4, standing_by, pinning_by, held_is, equations_are, standing_is, pinned_is, pinning_is, unchanged, becomes, leads_on}
 use Rattle.replay.proofs.Leaving.{certify-stands, tighten-stands, pin_left, release_left, ask_is}
-
--- a call that comes back as it was passed
-handed-back : (c : Call) (a : Told) → answer_kind a ≡ call_kind c → Handed c (record { call = c; answer = a })
-handed-back c a e = record { kind = refl; answered = e; cell = refl; number = refl; walks = refl; temperatures = λ d. refl; majorant = λ d. refl }
 
 -- the equations of a study, and its tolerance
 abbrev laid : {G : Type 0} → Plan → Study G → Plan
@@ -69,7 +64,7 @@ module _ {G : Type 0} {ground : Plan} {s s' : Study G} {bs cs : List BracketRow}
       Made ground s bs (Certify v w) (record { call = Certify v w; answer = Certified r }) s' cs
   certify-made {v = v} {w = w} {us = us} {ws = ws} {r = r} ev ew told left so =
       made (Certify v w) (record { call = Certify v w; answer = Certified r }) _
-      (handed-back (Certify v w) (Certified r) refl)
+      (refl, refl)
       (becomes s s' (certify_standing (laid ground s) (wide s) (standing_of s) us ws bs) so)
       (λ start h led.
       let q = equations_are led in
@@ -98,7 +93,7 @@ module _ {G : Type 0} {ground : Plan} {s s' : Study G} {bs cs : List BracketRow}
       Made ground s bs (Tighten n) (record { call = Tighten n'; answer = Tightened r }) s' cs
   tighten-made {n = n} {n' = n'} {r = r} en told left so =
       made (Tighten n) (record { call = Tighten n'; answer = Tightened r }) _
-      (record { kind = refl; answered = refl; cell = refl; number = refl; walks = en; temperatures = λ d. refl; majorant = λ d. refl })
+      en
       (becomes s s' (tighten_standing (laid ground s) (wide s) (standing_of s) bs n') so)
       (λ start h led.
       let q = equations_are led in
@@ -117,7 +112,7 @@ module _ {G : Type 0} {ground : Plan} {s s' : Study G} {bs : List BracketRow} wh
       Made ground s bs (Pin i t) (record { call = Pin i t'; answer = Pinned r }) s' bs
   pin-made {i = i} {t = t} {t' = t'} {r = r} et told so =
       made (Pin i t) (record { call = Pin i t'; answer = Pinned r }) (pin_leaves ground (pinning_of s) i t')
-      (record { kind = refl; answered = refl; cell = refl; number = et; walks = refl; temperatures = λ d. refl; majorant = λ d. refl }) so
+      (refl, et) so
       (λ start h led.
       let k : Check = pin_checks ground (held_by h) (pins_by h) i t in
       let told' : answer_of r ≡ answer k tt = told ∙ ap3 (λ a b z. answer (pin_checks ground a b i z) tt) (held_is led) led.count et in (
@@ -134,7 +129,7 @@ module _ {G : Type 0} {ground : Plan} {s s' : Study G} {bs : List BracketRow} wh
       Made ground s bs (Release i) (record { call = Release i; answer = Released r }) s' bs
   release-made {i = i} {r = r} told so =
       made (Release i) (record { call = Release i; answer = Released r }) (release_leaves ground (pinning_of s) i)
-      (handed-back (Release i) (Released r) refl) so
+      refl so
       (λ start h led.
       let k : Check = release_checks ground (held_by h) i in
       let told' : answer_of r ≡ answer k tt = told ∙ ap (λ a. answer (release_checks ground a i) tt) (held_is led) in (
@@ -165,7 +160,7 @@ module _ {G : Type 0} {ground : Plan} {s : Study G} {bs : List BracketRow} where
       Made ground s bs (Relax v k n) (record { call = Relax v' k' n'; answer = Relaxed r }) s bs
   relax-made {v = v} {v' = v'} {k = k} {n = n} {k' = k'} {n' = n'} {r = r} ev ek en told left =
       same (Relax v k n) (record { call = Relax v' k' n'; answer = Relaxed r })
-      (record { kind = refl; answered = refl; cell = refl; number = ek; walks = en; temperatures = λ d. absurd (d refl); majorant = λ d. refl })
+      (ek, en)
       (λ start h led.
       let q = equations_are led in
       ((told ∙ ap4 relax_answer q ev ek en, left ∙ ap4 relax_grid q ev ek en), refl, refl))
@@ -176,7 +171,7 @@ module _ {G : Type 0} {ground : Plan} {s : Study G} {bs : List BracketRow} where
       Made ground s bs (Raise v g n) (record { call = Raise v' g' n'; answer = Raised r }) s bs
   raise-made {v = v} {v' = v'} {g = g} {n = n} {g' = g'} {n' = n'} {r = r} ev eg en told left =
       same (Raise v g n) (record { call = Raise v' g' n'; answer = Raised r })
-      (record { kind = refl; answered = refl; cell = refl; number = eg; walks = en; temperatures = λ d. refl; majorant = λ d. absurd (d refl) })
+      (eg, en)
       (λ start h led.
       let q = equations_are led in
       ((told ∙ ap4 raise_answer q ev eg en, left ∙ ap4 raise_grid q ev eg en), refl, refl))
@@ -187,7 +182,7 @@ module _ {G : Type 0} {ground : Plan} {s : Study G} {bs : List BracketRow} where
       Made ground s bs (Ask i) (record { call = Ask i; answer = Asked r }) s bs
   ask-made {i = i} {r = r} told =
       same (Ask i) (record { call = Ask i; answer = Asked r })
-      (handed-back (Ask i) (Asked r) refl)
+      refl
       (λ start h led.
       let asking : Plan → State → List BracketRow → Answer BracketRow = λ p k x. answer (ask_check p k (length x) i) (brackets x i) in
       let answered = ask_is r (ask_check (laid ground s) s.state (length bs) i) (brackets bs i) told in

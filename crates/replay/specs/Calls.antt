@@ -1,5 +1,5 @@
 -- What a call is passed, and the event of a history that it makes with what came of it.
-use Rattle.std.specs.Prelude.{◌≡◌, ℕ, List, [], ◌∷◌, ℤ, pos, Ok, Err, vec_items, Result, ◌≢◌}
+use Rattle.std.specs.Prelude.{◌≡◌, ℕ, List, [], ◌∷◌, ℤ, pos, Ok, Err, vec_items, Result, ⊤}
 use Rattle.refusal.specs.Refusals.{Answer, accepted, refused, answer_of, fault_of}
 use Rattle.refusal.specs.declared.types.Refusal.{Refusal}
 use Rattle.section.specs.Plan.{Plan}
@@ -26,59 +26,42 @@ pub record Passed : Type 0 where
   pub number : ℤ
   pub walks : ℤ
 
-abbrev passing : List Temperature → List Majorant → ℕ → ℤ → ℤ → Passed
-passing us ws i z n = record { temperatures = us; majorant = ws; cell = i; number = z; walks = n }
+abbrev nothing : Passed
+nothing = record { temperatures = []; majorant = []; cell = 0; number = pos 0; walks = pos 0 }
 
 abbrev pub passed : Call → Passed
-passed (Relax us k n) = passing (vec_items us) [] 0 k n
-passed (Raise ws g n) = passing [] (vec_items ws) 0 g n
-passed (Certify us ws) = passing (vec_items us) (vec_items ws) 0 (pos 0) (pos 0)
-passed (Tighten n) = passing [] [] 0 (pos 0) n
-passed (Pin i t) = passing [] [] i t (pos 0)
-passed (Release i) = passing [] [] i (pos 0) (pos 0)
-passed (Ask i) = passing [] [] i (pos 0) (pos 0)
-passed OpenCount = passing [] [] 0 (pos 0) (pos 0)
-passed Finished = passing [] [] 0 (pos 0) (pos 0)
+passed (Relax us k n) = record nothing { temperatures = vec_items us; number = k; walks = n }
+passed (Raise ws g n) = record nothing { majorant = vec_items ws; number = g; walks = n }
+passed (Certify us ws) = record nothing { temperatures = vec_items us; majorant = vec_items ws }
+passed (Tighten n) = record nothing { walks = n }
+passed (Pin i t) = record nothing { cell = i; number = t }
+passed (Release i) = record nothing { cell = i }
+passed (Ask i) = record nothing { cell = i }
+passed OpenCount = nothing
+passed Finished = nothing
 
--- the kinds of calls and of answers, in one order
-abbrev pub call_kind : Call → ℕ
-call_kind (Relax us k n) = 0
-call_kind (Raise ws g n) = 1
-call_kind (Certify us ws) = 2
-call_kind (Tighten n) = 3
-call_kind (Pin i t) = 4
-call_kind (Release i) = 5
-call_kind (Ask i) = 6
-call_kind OpenCount = 7
-call_kind Finished = 8
+-- A call that comes back with an answer of its kind. Relaxing and raising alone alter a grid of their own.
+abbrev pub ComesBack : Call → Call → Told → Type 0
+ComesBack (Relax us k n) (Relax vs k' n') (Relaxed r) = (k' ≡ k) × (n' ≡ n)
+ComesBack (Raise ws g n) (Raise vs g' n') (Raised r) = (g' ≡ g) × (n' ≡ n)
+ComesBack (Certify us ws) (Certify us' ws') (Certified r) = (vec_items us' ≡ vec_items us) × (vec_items ws' ≡ vec_items ws)
+ComesBack (Tighten n) (Tighten n') (Tightened r) = n' ≡ n
+ComesBack (Pin i t) (Pin i' t') (Pinned r) = (i' ≡ i) × (t' ≡ t)
+ComesBack (Release i) (Release i') (Released r) = i' ≡ i
+ComesBack (Ask i) (Ask i') (Asked r) = i' ≡ i
+ComesBack OpenCount OpenCount (Counted n) = ⊤
+ComesBack Finished Finished (SaidFinished b) = ⊤
+ComesBack _ _ _ = ⊥
 
-abbrev pub answer_kind : Told → ℕ
-answer_kind (Relaxed r) = 0
-answer_kind (Raised r) = 1
-answer_kind (Certified r) = 2
-answer_kind (Tightened r) = 3
-answer_kind (Pinned r) = 4
-answer_kind (Released r) = 5
-answer_kind (Asked r) = 6
-answer_kind (Counted n) = 7
-answer_kind (SaidFinished b) = 8
-
--- An event hands its call back, with an answer of its kind; relaxing and raising alone alter a grid of their own.
-pub record Handed (c : Call) (e : Event) : Type 0 where
-  pub kind : call_kind e.call ≡ call_kind c
-  pub answered : answer_kind e.answer ≡ call_kind c
-  pub cell : (passed e.call).cell ≡ (passed c).cell
-  pub number : (passed e.call).number ≡ (passed c).number
-  pub walks : (passed e.call).walks ≡ (passed c).walks
-  pub temperatures : (call_kind c ≢ 0) → (passed e.call).temperatures ≡ (passed c).temperatures
-  pub majorant : (call_kind c ≢ 1) → (passed e.call).majorant ≡ (passed c).majorant
+-- an event hands its call back
+abbrev pub Handed : Call → Event → Type 0
+Handed c e = ComesBack c e.call e.answer
 
 -- one event for each call, in order
 abbrev pub AllHanded : List Call → List Event → Type 0
-AllHanded [] [] = Unit {0}
-AllHanded [] (e ∷ es) = ⊥
-AllHanded (c ∷ cs) [] = ⊥
+AllHanded [] [] = ⊤
 AllHanded (c ∷ cs) (e ∷ es) = Handed c e × AllHanded cs es
+AllHanded _ _ = ⊥
 
 abbrev pub bracket_answer : Result Bracket Refusal → Answer BracketRow
 bracket_answer (Ok b) = accepted (plain b)

@@ -1,2 +1,2 @@
-mod Checks
+pub mod Checks
 mod Pins

@@ -41,7 +41,7 @@ module _ {G : Type 0} (plan : G → Plan) (s s' : Study G) (layer : PinLayer G) 
         ◌≡◌ {A = Answer (Unit {0})} (accepted tt) (answer k tt) → standing_of s' ≡ standing Unproved (free_count (plan_through plan layer)) →
         Repinned s s' (unless_refused k (pinning_of s) altogether)
     accepted-leaves e stands =
-        let c = (accepted_is k tt tt e).0 in
+        let c = (accepted_is k e).0 in
         let new : pins_in layer ≡ pins = fun_ext (λ i. changes.pins_are i ∙ ap (λ j. unless_refused j (pins_in s.layer i) (pins i)) c) in
         repinned (
         stands

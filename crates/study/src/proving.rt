@@ -8,19 +8,17 @@ ghost use Rattle.steps.specs.Tightening.{tighten_run};
 ghost use Rattle.certificate.specs.Certifying.{certificate_check, written};
 ghost use Rattle.certificate.specs.Counting.{open_count};
 ghost use Rattle.section.specs.Reading.{plain, brackets as brackets_of};
-ghost use Rattle.study.specs.Calls.{standing, length_check, certificate_of, certify_answer, certify_grid, certify_standing, tighten_answer, tighten_grid, tighten_standing, ask_check, pin_leaves, release_leaves, is_finished};
-ghost use Rattle.study.specs.Events.{walk_answer_of};
+ghost use Rattle.study.specs.Calls.{standing, length_check, basis_of, certificate_of, certify_answer, certify_grid, certify_standing, tighten_answer, tighten_grid, tighten_standing, ask_check, pin_leaves, release_leaves, is_finished};
 ghost use Rattle.study.specs.Pins.{pinning_check, releasing_check};
 ghost use Rattle.study.specs.Studies.{equations_of, standing_of, pinning_of, Repinned, Becomes};
 
 use crate::event::{Event, meets};
 use crate::tighten::tighten_laid;
 use crate::types::{Certificate, State, Study};
-use certificate::basis::Basis;
 use certificate::certify::certify;
 use certificate::count::count_open;
 use ground::ground::{Ground, free_cells};
-use refusal::types::{Refusal, WalkFault};
+use refusal::types::Refusal;
 use section::limits::within;
 use section::rows::{BracketRow, Majorant, Temperature};
 use section::types::Bracket;
@@ -42,17 +40,22 @@ impl<G: Ground> Study<G> {
         temperatures: &[Temperature],
         majorant: &[Majorant],
         brackets: &mut [BracketRow],
-        basis: Basis,
         state: State,
     ) -> Result<Certificate, Refusal>
         requires temperatures { length temperatures.now ≡ size (equations_of G.plan self.old) }
         requires majorant { length majorant.now ≡ size (equations_of G.plan self.old) }
         requires brackets { length brackets.old ≡ size (equations_of G.plan self.old) }
-        ensures answer { answer_of result ≡ answer (certificate_check (equations_of G.plan self.old) basis temperatures.now majorant.now brackets.old) (certificate_of (equations_of G.plan self.old) self.old.tolerance.width basis temperatures.now majorant.now brackets.old) }
-        ensures grid { brackets.new ≡ unless_refused (certificate_check (equations_of G.plan self.old) basis temperatures.now majorant.now brackets.old) brackets.old (written (equations_of G.plan self.old) basis temperatures.now majorant.now brackets.old) }
-        ensures study { Becomes self.old self.new (unless_refused (certificate_check (equations_of G.plan self.old) basis temperatures.now majorant.now brackets.old) (standing_of self.old) (standing state (open_count (equations_of G.plan self.old) self.old.tolerance.width (written (equations_of G.plan self.old) basis temperatures.now majorant.now brackets.old)))) }
+        ensures answer { answer_of result ≡ answer (certificate_check (equations_of G.plan self.old) (basis_of self.old.state) temperatures.now majorant.now brackets.old) (certificate_of (equations_of G.plan self.old) self.old.tolerance.width (basis_of self.old.state) temperatures.now majorant.now brackets.old) }
+        ensures grid { brackets.new ≡ unless_refused (certificate_check (equations_of G.plan self.old) (basis_of self.old.state) temperatures.now majorant.now brackets.old) brackets.old (written (equations_of G.plan self.old) (basis_of self.old.state) temperatures.now majorant.now brackets.old) }
+        ensures study { Becomes self.old self.new (unless_refused (certificate_check (equations_of G.plan self.old) (basis_of self.old.state) temperatures.now majorant.now brackets.old) (standing_of self.old) (standing state (open_count (equations_of G.plan self.old) self.old.tolerance.width (written (equations_of G.plan self.old) (basis_of self.old.state) temperatures.now majorant.now brackets.old)))) }
     {
-        let (rest, margin) = certify(&self.layer, temperatures, majorant, brackets, basis)?;
+        let (rest, margin) = certify(
+            &self.layer,
+            temperatures,
+            majorant,
+            brackets,
+            self.state.basis(),
+        )?;
         self.state = state;
         self.open = count_open(&self.layer, brackets, self.tolerance);
         Ok(Certificate {
@@ -77,8 +80,8 @@ impl<G: Ground> Study<G> {
         self.sized(temperatures.len())?;
         self.sized(majorant.len())?;
         self.sized(brackets.len())?;
-        let (state, basis) = meets(self.state, Event::Certificate)?;
-        self.accept(temperatures, majorant, brackets, basis, state)
+        let state = meets(self.state, Event::Certificate)?;
+        self.accept(temperatures, majorant, brackets, state)
     }
 
     // Tightens, stopped by a crossing or not, and counts the open cells anew.
@@ -86,15 +89,13 @@ impl<G: Ground> Study<G> {
         &mut self,
         brackets: &mut [BracketRow],
         most: usize,
-        state: State,
-    ) -> Result<(usize, usize), WalkFault>
+    ) -> Result<(usize, usize), Refusal>
         requires { length brackets.old ≡ size (equations_of G.plan self.old) }
-        ensures answer { walk_answer_of result ≡ answer (at_first (tighten_run (equations_of G.plan self.old) most brackets.old).stopped (fault Walk 9)) (counts_of (tighten_run (equations_of G.plan self.old) most brackets.old)) }
+        ensures answer { answer_of result ≡ answer (at_first (tighten_run (equations_of G.plan self.old) most brackets.old).stopped (fault Walk 9)) (counts_of (tighten_run (equations_of G.plan self.old) most brackets.old)) }
         ensures grid { brackets.new ≡ (tighten_run (equations_of G.plan self.old) most brackets.old).grid }
-        ensures study { Becomes self.old self.new (standing state (open_count (equations_of G.plan self.old) self.old.tolerance.width (tighten_run (equations_of G.plan self.old) most brackets.old).grid)) }
+        ensures study { Becomes self.old self.new (standing self.old.state (open_count (equations_of G.plan self.old) self.old.tolerance.width (tighten_run (equations_of G.plan self.old) most brackets.old).grid)) }
     {
         let ran = tighten_laid(&self.layer, brackets, most);
-        self.state = state;
         self.open = count_open(&self.layer, brackets, self.tolerance);
         ran
     }
@@ -111,10 +112,9 @@ impl<G: Ground> Study<G> {
         ensures study { Becomes self.old self.new (tighten_standing (equations_of G.plan self.old) self.old.tolerance.width (standing_of self.old) brackets.old walks) }
     {
         self.sized(brackets.len())?;
-        let (state, _) = meets(self.state, Event::Tightening)?;
+        meets(self.state, Event::Tightening)?;
         within(1, walks, 1, 1_000_000)?;
-        let counts = self.narrow(brackets, walks as usize, state)?;
-        Ok(counts)
+        self.narrow(brackets, walks as usize)
     }
 
     // The bracket of a free cell, while brackets are proved.
@@ -140,7 +140,7 @@ impl<G: Ground> Study<G> {
         ensures answer { answer_of result ≡ answer (pinning_check G.plan self.old.layer cell temperature) tt }
         ensures study { Repinned self.old self.new (pin_leaves (G.plan self.old.layer.below) (pinning_of self.old) cell temperature) }
     {
-        let (state, _) = meets(self.state, Event::Pin)?;
+        let state = meets(self.state, Event::Pin)?;
         self.layer.update(|layer| layer.pin(cell, temperature))?;
         self.begin(state);
         Ok(())
@@ -151,7 +151,7 @@ impl<G: Ground> Study<G> {
         ensures answer { answer_of result ≡ answer (releasing_check G.plan self.old.layer cell) tt }
         ensures study { Repinned self.old self.new (release_leaves (G.plan self.old.layer.below) (pinning_of self.old) cell) }
     {
-        let (state, _) = meets(self.state, Event::Release)?;
+        let state = meets(self.state, Event::Release)?;
         self.layer.update(|layer| layer.release(cell))?;
         self.begin(state);
         Ok(())

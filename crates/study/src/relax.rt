@@ -14,6 +14,7 @@ use steps::told::counts_of;
 use walk::run::run;
 
 // Relaxes, unless a free cell's temperature is outside its limits.
+#[tactic(auto, using(certificate::proofs::Clears::mild_walkable))]
 pub(crate) fn relax_laid<G: Ground>(
     laid: &LaidOut<G>,
     grid: &mut [Temperature],

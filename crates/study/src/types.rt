@@ -1,3 +1,7 @@
+ghost use Rattle.std.specs.Prelude.{◌≡◌};
+ghost use Rattle.study.specs.Calls.{basis_of};
+
+use certificate::basis::Basis;
 use ground::ground::Ground;
 use layers::layer::PinLayer;
 use section::types::Tolerance;
@@ -8,6 +12,18 @@ use stencil::laid::LaidOut;
 pub enum State {
     Unproved,
     Proved,
+}
+
+impl State {
+    // What the brackets in the grid are worth to a certificate.
+    pub(crate) fn basis(self) -> Basis
+        ensures { result ≡ basis_of self }
+    {
+        match self {
+            State::Unproved => Basis::Alone,
+            State::Proved => Basis::Joined,
+        }
+    }
 }
 
 // What an accepted certificate answers: the largest absolute residual, the smallest margin of a free

@@ -1,5 +1,5 @@
 -- The worked floors: what a host does at each, and what it is told each time.
-use Rattle.std.specs.Prelude.{ℕ, Bool, true, false, ◌&&◌, T, List, [], ◌∷◌, ℤ, pos, neg_ℤ}
+use Rattle.std.specs.Prelude.{◌≡◌, ℕ, true, false, List, [], ◌∷◌, map, ℤ, pos, neg_ℤ}
 use Rattle.refusal.specs.declared.types.Level.TheVariants.{Call, Table, Walk}
 use Rattle.section.specs.Plan.{Plan, plan_of}
 use Rattle.section.specs.declared.rows.Row.{Row}
@@ -7,7 +7,7 @@ use Rattle.section.specs.declared.rows.Row.TheVariants.{Free}
 use Rattle.ground.specs.Grounds.{slab_cell, ring_cell, listed_cell}
 use Rattle.steps.specs.declared.report.Report.TheVariants.{Settled}
 use Rattle.worked.specs.Desk.{Act, relax, raise, certify, tighten, pin, release, ask, ask_open_count, ask_finished, put_temperature, put_majorant, put_bracket, temperature_at, majorant_at, bracket_at, weights_at}
-use Rattle.worked.specs.Desk.{Reply, counts, raised, certificate, bracket, number, said, weights, refused, done, ◌gives◌, opened, right}
+use Rattle.worked.specs.Desk.{Reply, counts, raised, certificate, bracket, number, said, weights, refused, done, ◌gives◌, opened, replies}
 
 -- a floor, a tolerance, and what is done and told
 pub record Case : Type 0 where
@@ -122,10 +122,13 @@ cases =
     ∷ put_temperature 4 (pos 1_000_000_001) gives done ∷ certify gives refused Call 10 4 ∷ [])
     ∷ []
 
-abbrev pub all_right : List Case → Bool
-all_right [] = true
-all_right (c ∷ cs) = right (opened c.floor (pos c.tolerance)) c.acts && all_right cs
+-- what a host is told in a case, and what it is to be told
+abbrev pub told_in : Case → List Reply
+told_in c = replies (opened c.floor (pos c.tolerance)) c.acts
 
--- every case is right
+abbrev pub expected_in : Case → List Reply
+expected_in c = map (λ x. x.1) c.acts
+
+-- in every case it is told just that
 abbrev pub Worked : Type 0
-Worked = T (all_right cases)
+Worked = map told_in cases ≡ map expected_in cases

@@ -1,18 +1,15 @@
 -- A host at work: what lies on its desk, what it can do, what it is told and what lies there afterwards.
-use Rattle.std.specs.Prelude.{ℕ, Bool, true, false, ◌&&◌, List, [], ◌∷◌, length, replicate, ℤ, pos, None, slice_index_or, slice_set}
+use Rattle.std.specs.Prelude.{ℕ, Bool, List, [], ◌∷◌, length, replicate, ℤ, pos, None, slice_index_or, slice_set}
 use Rattle.refusal.specs.Refusals.{Answer, answer}
 use Rattle.refusal.specs.declared.types.Level.{Level}
-use Rattle.refusal.specs.declared.types.Level.TheVariants.{Call, Table, Walk}
 use Rattle.section.specs.Plan.{Plan, Cell, free, held, void, size, at, diag}
 use Rattle.section.specs.Reading.{temperatures, majorants, brackets, widest}
 use Rattle.section.specs.declared.rows.BracketRow.{BracketRow}
 use Rattle.section.specs.declared.rows.Temperature.{Temperature}
 use Rattle.section.specs.declared.rows.Majorant.{Majorant}
 use Rattle.layers.specs.Layers.{holding, pin_checks, release_checks}
-use Rattle.steps.specs.Steps.{same}
 use Rattle.steps.specs.declared.report.Report.{Report}
-use Rattle.steps.specs.declared.report.Report.TheVariants.{Settled, Moving, NoneAt}
-use Rattle.study.specs.Calls.{Standing, Pinning, pinning, anew, pin_leaves, release_leaves, is_finished, relax_answer, relax_grid, raise_answer, raise_grid, certify_answer, certify_grid, certify_standing, tighten_answer, tighten_grid, tighten_standing, ask_check}
+use Rattle.study.specs.Calls.{Standing, Pinning, anew, pin_leaves, release_leaves, is_finished, relax_answer, relax_grid, raise_answer, raise_grid, certify_answer, certify_grid, certify_standing, tighten_answer, tighten_grid, tighten_standing, ask_check}
 
 -- a study of a ground at a tolerance, with its pins and how it stands, and the host's three grids
 pub record Desk : Type 0 where
@@ -109,73 +106,30 @@ reply d (majorant_at i) = number (majorants d.ws i)
 reply d (bracket_at i) = row (slice_index_or d.bs i widest)
 reply d (weights_at i) = weighed (at (plan d) i) (diag (plan d) i)
 
--- what a call alters: a grid of temperatures, a majorant, brackets and how they stand, or the pins
-abbrev with_us : Desk → List Temperature → Desk
-with_us d us = record { base = d.base; tolerance = d.tolerance; pinned = d.pinned; us = us; ws = d.ws; bs = d.bs }
-
-abbrev with_ws : Desk → List Majorant → Desk
-with_ws d ws = record { base = d.base; tolerance = d.tolerance; pinned = d.pinned; us = d.us; ws = ws; bs = d.bs }
-
+-- brackets as they are left, and how they stand
 abbrev with_bs : Desk → Standing → List BracketRow → Desk
-with_bs d k bs = record { base = d.base; tolerance = d.tolerance; pinned = pinning d.pinned.pins d.pinned.count k; us = d.us; ws = d.ws; bs = bs }
+with_bs d k bs = record d { pinned = record d.pinned { stands = k }; bs = bs }
 
-abbrev with_pins : Desk → Pinning → Desk
-with_pins d x = record { base = d.base; tolerance = d.tolerance; pinned = x; us = d.us; ws = d.ws; bs = d.bs }
-
+-- what an act leaves behind; a question leaves all as it was
 abbrev pub after : Desk → Act → Desk
-after d (relax k n) = with_us d (relax_grid (plan d) d.us (pos k) (pos n))
-after d (raise g n) = with_ws d (raise_grid (plan d) d.ws (pos g) (pos n))
+after d (relax k n) = record d { us = relax_grid (plan d) d.us (pos k) (pos n) }
+after d (raise g n) = record d { ws = raise_grid (plan d) d.ws (pos g) (pos n) }
 after d certify =
     with_bs d (certify_standing (plan d) d.tolerance (stands d) d.us d.ws d.bs) (certify_grid (plan d) (stands d).state d.us d.ws d.bs)
 after d (tighten n) =
     with_bs d (tighten_standing (plan d) d.tolerance (stands d) d.bs (pos n)) (tighten_grid (plan d) (stands d).state d.bs (pos n))
-after d (ask i) = d
-after d (pin i t) = with_pins d (pin_leaves d.base d.pinned i t)
-after d (release i) = with_pins d (release_leaves d.base d.pinned i)
-after d ask_open_count = d
-after d ask_finished = d
-after d (put_temperature i t) = with_us d (slice_set d.us i (record { value = t }))
-after d (put_majorant i w) = with_ws d (slice_set d.ws i (record { value = w }))
-after d (put_bracket i lo hi) = with_bs d (stands d) (slice_set d.bs i (record { lo = lo; hi = hi }))
-after d (temperature_at i) = d
-after d (majorant_at i) = d
-after d (bracket_at i) = d
-after d (weights_at i) = d
-
--- A reply as plain numbers, its kind first: replies are equal where these are.
-abbrev level_number : Level → ℤ
-level_number Call = pos 0
-level_number Table = pos 1
-level_number Walk = pos 2
-
-abbrev report_numbers : Report → List ℤ
-report_numbers Settled = pos 0 ∷ []
-report_numbers Moving = pos 1 ∷ []
-report_numbers (NoneAt i) = pos 2 ∷ pos i ∷ []
-
-abbrev plain : Reply → List ℤ
-plain (counts n c) = pos 0 ∷ pos n ∷ pos c ∷ []
-plain (raised r n c) = pos 1 ∷ pos n ∷ pos c ∷ report_numbers r
-plain (certificate r m o) = pos 2 ∷ pos r ∷ pos m ∷ pos o ∷ []
-plain (bracket lo hi) = pos 3 ∷ lo ∷ hi ∷ []
-plain (number z) = pos 4 ∷ z ∷ []
-plain (weights n w e s d) = pos 5 ∷ pos n ∷ pos w ∷ pos e ∷ pos s ∷ pos d ∷ []
-plain (refused l k i) = pos 6 ∷ level_number l ∷ pos k ∷ pos i ∷ []
-plain done = pos 7 ∷ []
-plain (said true) = pos 8 ∷ pos 1 ∷ []
-plain (said false) = pos 8 ∷ pos 0 ∷ []
-
-abbrev equal : List ℤ → List ℤ → Bool
-equal [] [] = true
-equal [] (y ∷ ys) = false
-equal (x ∷ xs) [] = false
-equal (x ∷ xs) (y ∷ ys) = same x y && equal xs ys
+after d (pin i t) = record d { pinned = pin_leaves d.base d.pinned i t }
+after d (release i) = record d { pinned = release_leaves d.base d.pinned i }
+after d (put_temperature i t) = record d { us = slice_set d.us i (record { value = t }) }
+after d (put_majorant i w) = record d { ws = slice_set d.ws i (record { value = w }) }
+after d (put_bracket i lo hi) = record d { bs = slice_set d.bs i (record { lo = lo; hi = hi }) }
+after d _ = d
 
 infix 70 ◌gives◌
 abbrev pub ◌gives◌ : Act → Reply → Act × Reply
 a gives r = (a, r)
 
--- whether a host that does one act after the other is told what is expected each time
-abbrev pub right : Desk → List (Act × Reply) → Bool
-right d [] = true
-right d (x ∷ xs) = equal (plain (reply d x.0)) (plain x.1) && right (after d x.0) xs
+-- what a host is told that does one act after the other
+abbrev pub replies : Desk → List (Act × Reply) → List Reply
+replies d [] = []
+replies d (x ∷ xs) = reply d x.0 ∷ replies (after d x.0) xs

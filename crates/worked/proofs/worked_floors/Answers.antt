@@ -5,4 +5,4 @@ use Rattle.worked.proofs.worked_floors.Goals as goal
 -- by computing every case
 pub returns : goal.returns
 unfolding cells_of links diag heat entry mass pull load
-returns c = record { count = refl; right = tt }
+returns c = record { count = refl; right = refl }
