@@ -16,11 +16,7 @@ fn is_open(row: BracketRow, tolerance: Tolerance) -> bool
 }
 
 // The free cells whose bracket is wider than the tolerance. For the crates above.
-pub fn count_open<G: Ground>(
-    laid: &LaidOut<G>,
-    grid: &[BracketRow],
-    tolerance: Tolerance,
-) -> usize
+pub fn count_open<G: Ground>(laid: &LaidOut<G>, grid: &[BracketRow], tolerance: Tolerance) -> usize
     requires { length grid.now ≡ size (G.plan laid.now) }
     ensures { result ≡ open_count (G.plan laid.now) tolerance.width grid.now }
 {
