@@ -11,7 +11,7 @@ use measure::measure::Measure;
 use section::rows::{BracketRow, Majorant, Temperature};
 use section::types::Bracket;
 use stencil::laid::LaidOut;
-use steps::raise::height;
+use steps::height::Height;
 
 // What two brackets have in common.
 pub(crate) fn shared(new: BracketRow, old: Bracket) -> BracketRow
@@ -57,5 +57,5 @@ pub(crate) fn certified_at<G: Ground>(
     requires free { Free (G.plan laid.now) cell }
     ensures { result ≡ certified_of (G.plan laid.now) temperatures.now majorant.now cell }
 {
-    measure.certified(temperatures[cell].value, height(majorant[cell]))
+    measure.certified(temperatures[cell].value, Height::of(majorant[cell]))
 }

@@ -16,7 +16,7 @@ use refusal::types::Refusal;
 use scan::first_failing;
 use section::rows::{Majorant, Temperature};
 use stencil::laid::LaidOut;
-use steps::raise::height;
+use steps::height::Height;
 
 // The first free cell whose temperature is outside its limits is refused. For the crates above.
 pub fn temperatures_fair<G: Ground>(laid: &LaidOut<G>, grid: &[Temperature]) -> Result<(), Refusal>
@@ -87,7 +87,7 @@ fn spreads_near<G: Ground>(
         requires fair { Walkable FairMajorant (G.plan laid.now) grid.now }
         requires some { Free (G.plan laid.now) cell → 1 ≤ measure.margin }
         ensures { result ≡ (is_free_at (G.plan laid.entry.now) cell && nat_lt 1000000000 (spread_of measure.rest measure.margin (heights grid.entry.now cell))) }
-    { laid.is_free(cell) && measure.too_wide(height(grid[cell])) };
+    { laid.is_free(cell) && measure.too_wide(Height::of(grid[cell])) };
     match first_failing(laid.shape(), is_wide) {
         Some(cell) => Err(Refusal::Spread(cell)),
         None => Ok(()),

@@ -1,4 +1,3 @@
-mod Rows
 mod Residuals
 mod Margins
 mod Spreads

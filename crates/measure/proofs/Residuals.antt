@@ -60,5 +60,5 @@ pub shown :
     (p : Plan) (us : List Temperature) (i : ℕ) (st : Stencil) (s : Site Temperature) → Equation p i st → Shows us i st s →
     site_sum s -ℤ pos s.stencil.diagonal *ℤ s.old.value ≡ residual p us i
 shown p us i st s q h =
-    rw (h.stencil, h.old (record { value = pos 0 }), h.north (record { value = pos 0 }), h.west (record { value = pos 0 }), h.east (record { value = pos 0 }), h.south (record { value = pos 0 }))
+    rw (h.stencil, h.old (record { value = pos 0 }), h.around (record { value = pos 0 }))
     (rw (q.pulls (temperatures us), q.diagonal) refl)

@@ -1,12 +1,8 @@
 -- Spreads: rest * w over the margin, rounded up.
-use Rattle.std.proofs.Common.{◌≡◌, ℕ, ◌+◌, ◌-◌, ◌*◌, ◌<◌, ◌≤◌, ltb, sym, ◌∙◌, inl, inr, arith, w64, Fits}
+use Rattle.std.proofs.Common.{◌≡◌, ℕ, ◌+◌, ◌*◌, ◌<◌, ◌≤◌, ltb, sym, ◌∙◌, inl, inr, arith}
 use native.Mathlib.Nat.{lt_of_mul-lt-mul_left}
-use Rattle.std.proofs.lemmas.Nat.{mul-le}
 use Rattle.std.proofs.lemmas.Bool.{cases_lt, lt-ltb, le-ltb}
 use Rattle.number.specs.Rounding.{ceil}
-
-pub sum_fits : (r w m : ℕ) → r ≤ 18000000000000 → w ≤ 500000 → m ≤ 2500000000 → Fits w64 (r * w + (m - 1))
-sum_fits r w m br bw bm = omega (arith, mul-le r w 18000000000000 500000 br bw)
 
 -- rounded up, m times the quotient is at least a and less than m more
 least : (a m : ℕ) → 1 ≤ m → a ≤ m * ceil a m

@@ -7,6 +7,7 @@ use crate::grids::{least_margin, rest};
 use ground::ground::Ground;
 use section::rows::{BracketRow, Majorant, Temperature};
 use stencil::laid::LaidOut;
+use steps::height::Height;
 
 // The rest of proposed temperatures, and the margin of a majorant with no negative one.
 #[derive(Clone, Copy)]
@@ -40,30 +41,27 @@ pub fn measured<G: Ground>(
 
 impl Measure {
     // How far the exact temperature can lie from the proposed one. For the crates above.
-    pub fn spread(self, height: u64) -> u64
-        requires some { 1 ≤ self.margin }
-        requires low { height ≤ 500000 }
-        ensures { result ≡ spread_of self.rest self.margin height }
+    pub fn spread(self, height: Height) -> u64
+        requires { 1 ≤ self.margin }
+        ensures { result ≡ spread_of self.rest self.margin height.value }
     {
-        (self.rest * height + (self.margin - 1)) / self.margin
+        (self.rest * height.value + (self.margin - 1)) / self.margin
     }
 
     // Whether the spread is above its limit; a product is cheaper than a quotient. For the crates above.
-    pub fn too_wide(self, height: u64) -> bool
-        requires some { 1 ≤ self.margin }
-        requires low { height ≤ 500000 }
-        ensures { result ≡ nat_lt 1000000000 (spread_of self.rest self.margin height) }
+    pub fn too_wide(self, height: Height) -> bool
+        requires { 1 ≤ self.margin }
+        ensures { result ≡ nat_lt 1000000000 (spread_of self.rest self.margin height.value) }
     {
-        self.rest * height > 1_000_000_000 * self.margin
+        self.rest * height.value > 1_000_000_000 * self.margin
     }
 
     // The certified bracket of a cell. For the crates above.
-    pub fn certified(self, temperature: i64, height: u64) -> BracketRow
+    pub fn certified(self, temperature: i64, height: Height) -> BracketRow
         requires some { 1 ≤ self.margin }
-        requires low { height ≤ 500000 }
         requires mild { unsigned_abs temperature ≤ 1000000000 }
-        requires near { spread_of self.rest self.margin height ≤ 1000000000 }
-        ensures { result ≡ around temperature (spread_of self.rest self.margin height) }
+        requires near { spread_of self.rest self.margin height.value ≤ 1000000000 }
+        ensures { result ≡ around temperature (spread_of self.rest self.margin height.value) }
     {
         let spread = self.spread(height) as i64;
         BracketRow {

@@ -3,8 +3,12 @@ use Rattle.std.proofs.Common.{◌≡◌, ℕ, ◌+◌, ◌-◌, true, T, List, �
 use borrow.Author.Differences.{ints}
 use Rattle.section.specs.Plan.{Plan, Cell, free, at, is_free, Link, counted, has_north, has_west, has_east, links_of, links, dot, dot_n, weights, entry, mass, diag, heat, heat_of, loss_of, pull, load}
 use Rattle.section.proofs.Cells.{dot-append, dot_n-append, weights-append}
-use Rattle.stencil.specs.Stencils.{SideOf, Equation}
-use Rattle.stencil.specs.declared.side.Side.{Side}
+use Rattle.section.specs.declared.types.FreeRecord.{FreeRecord}
+use Rattle.stencil.specs.Sides.{AcrossSides}
+use Rattle.stencil.specs.Stencils.{SidesOf, Equation}
+use Rattle.stencil.specs.declared.types.Side.{Side}
+use Rattle.stencil.specs.declared.sides.Sides.{Sides}
+use Rattle.stencil.specs.declared.types.Arm.{Arm}
 use Rattle.stencil.specs.declared.types.Stencil.{Stencil}
 
 regroup :
@@ -12,24 +16,24 @@ regroup :
     (q +ℤ (gn +ℤ (gw +ℤ (ge +ℤ gs)))) +ℤ (an +ℤ (aw +ℤ (ae +ℤ az))) ≡ q +ℤ (a +ℤ (b +ℤ (c +ℤ d)))
 regroup q gn gw ge gs an aw ae az a b c d e f g h = omega (arith, ints)
 
-module _ (p : Plan) (i n w e s l : ℕ) (q : ℤ) (here : free n w e s l q ≡ at p i) (N W E S : Side) where
+module _ (p : Plan) (i : ℕ) (own : FreeRecord) (here : free own.north own.west own.east own.south own.loss own.heat ≡ at p i) where
   abbrev to_north : List Link
-  to_north = counted p (has_north p i) n (i - p.wide)
+  to_north = counted p (has_north p i) own.north (i - p.wide)
 
   abbrev to_west : List Link
-  to_west = counted p (has_west p i) w (i - 1)
+  to_west = counted p (has_west p i) own.west (i - 1)
 
   abbrev to_east : List Link
-  to_east = counted p (has_east p i) e (i + 1)
+  to_east = counted p (has_east p i) own.east (i + 1)
 
   abbrev to_south : List Link
-  to_south = counted p true s (i + p.wide)
+  to_south = counted p true own.south (i + p.wide)
 
   links_are : links p i ≡ to_north ++ (to_west ++ (to_east ++ to_south))
   unfolding links
   links_are = sym (ap (links_of p i) here)
 
-  heat_is : heat p i ≡ q
+  heat_is : heat p i ≡ own.heat
   unfolding heat
   heat_is = sym (ap heat_of here)
 
@@ -42,30 +46,32 @@ module _ (p : Plan) (i n w e s l : ℕ) (q : ℤ) (here : free n w e s l q ≡ a
   weights_are : weights (links p i) ≡ weights to_north + (weights to_west + (weights to_east + weights to_south))
   weights_are = rw links_are (simp weights-append)
 
-  loss_is : loss_of (at p i) ≡ l
+  loss_is : loss_of (at p i) ≡ own.loss
   loss_is = sym (ap loss_of here)
 
-  diag_is : diag p i ≡ l + (weights to_north + (weights to_west + (weights to_east + weights to_south)))
+  diag_is : diag p i ≡ own.loss + (weights to_north + (weights to_west + (weights to_east + weights to_south)))
   unfolding diag
   diag_is = omega (arith, weights_are, loss_is)
 
-  module _ (hn : SideOf p i to_north N) (hw : SideOf p i to_west W) (he : SideOf p i to_east E) (hs : SideOf p i to_south S) where
+  module _ (f : Sides Side) (h : SidesOf p i own f) where
     pub equation_is :
-        (st : Stencil) → st.north ≡ N.arm → st.west ≡ W.arm → st.east ≡ E.arm → st.south ≡ S.arm →
-        st.diagonal ≡ l + N.counts + W.counts + E.counts + S.counts →
-        st.source ≡ q +ℤ (N.given +ℤ (W.given +ℤ (E.given +ℤ S.given))) → Equation p i st
+        (st : Stencil) → AcrossSides (λ (g : Side) (a : Arm). a ≡ g.arm) f st.arms →
+        st.diagonal ≡ own.loss + f.north.counts + f.west.counts + f.east.counts + f.south.counts →
+        st.source ≡ own.heat +ℤ (f.north.given +ℤ (f.west.given +ℤ (f.east.given +ℤ f.south.given))) → Equation p i st
     unfolding pull load
-    equation_is st en ew ee es ed eq = record {
+    equation_is st arm ed eq = record {
       free = subst (λ (c : Cell). T (is_free c)) here tt;
-      diagonal = omega (arith, ed, diag_is, hn.counts, hw.counts, he.counts, hs.counts);
-      pulls = λ u. rw (eq, en, ew, ee, es, heat_is, dot_is (entry p u))
-          (regroup q N.given W.given E.given S.given
-          (pos N.arm.weight *ℤ u N.arm.cell) (pos W.arm.weight *ℤ u W.arm.cell) (pos E.arm.weight *ℤ u E.arm.cell) (pos S.arm.weight *ℤ u S.arm.cell)
+      diagonal = omega (arith, ed, diag_is, h.north.counts, h.west.counts, h.east.counts, h.south.counts);
+      pulls = λ u. rw (eq, arm.north, arm.west, arm.east, arm.south, heat_is, dot_is (entry p u))
+          (regroup own.heat f.north.given f.west.given f.east.given f.south.given
+          (pos f.north.arm.weight *ℤ u f.north.arm.cell) (pos f.west.arm.weight *ℤ u f.west.arm.cell) (pos f.east.arm.weight *ℤ u f.east.arm.cell) (pos f.south.arm.weight *ℤ u f.south.arm.cell)
           (dot to_north (entry p u)) (dot to_west (entry p u)) (dot to_east (entry p u)) (dot to_south (entry p u))
-          (hn.pulls u) (hw.pulls u) (he.pulls u) (hs.pulls u));
-      loads = λ v. rw (en, ew, ee, es, dot_n_is (mass p v)) (omega (arith, hn.loads v, hw.loads v, he.loads v, hs.loads v));
-      north_free = rw en hn.reads;
-      west_free = rw ew hw.reads;
-      east_free = rw ee he.reads;
-      south_free = rw es hs.reads;
+          (h.north.pulls u) (h.west.pulls u) (h.east.pulls u) (h.south.pulls u));
+      loads = λ v. rw (arm.north, arm.west, arm.east, arm.south, dot_n_is (mass p v)) (omega (arith, h.north.loads v, h.west.loads v, h.east.loads v, h.south.loads v));
+      reads = record {
+        north = rw arm.north h.north.reads;
+        west = rw arm.west h.west.reads;
+        east = rw arm.east h.east.reads;
+        south = rw arm.south h.south.reads;
+      };
     }

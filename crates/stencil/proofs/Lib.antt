@@ -1,4 +1,4 @@
-mod Sides
+mod Toward
 mod Equations
 mod Rows
 mod Keeping

@@ -1,20 +1,47 @@
-ghost use Rattle.std.specs.Prelude.{◌≡◌, ◌+◌, ◌<◌, ◌≤◌, vec_capacity};
+ghost use Rattle.std.specs.Prelude.{◌≡◌, ◌+◌, ◌<◌, ◌≤◌, ◌+ℤ◌, unsigned_abs, vec_capacity};
 ghost use Rattle.section.specs.Plan.{free, at, size};
-ghost use Rattle.stencil.specs.Stencils.{Equation, RowOf, Stands, OnPlan};
+ghost use Rattle.stencil.specs.Stencils.{Equation, RowOf, SidesOf, Stands, OnPlan};
 
 use crate::kept::{Kept, keep};
-use crate::side::{Side, east, look_toward, north, south, west};
-use crate::types::Stencil;
+use crate::side::{east, look_toward, north, south, west};
+use crate::sides::Sides;
+use crate::types::{Side, Stencil};
 use ground::ground::Ground;
 use number::sum_of_five;
 use section::types::{FreeRecord, Record, Shape};
 
 // d: the loss and every link that counts, toward free and held cells alike.
-fn diagonal(loss: u16, north: Side, west: Side, east: Side, south: Side) -> u16
-    requires { loss + north.counts + west.counts + east.counts + south.counts ≤ 5000 }
-    ensures { result ≡ loss + north.counts + west.counts + east.counts + south.counts }
+fn diagonal(own: FreeRecord, sides: Sides<Side>) -> u16
+    ensures { result ≡ own.loss + sides.north.counts + sides.west.counts + sides.east.counts + sides.south.counts }
 {
-    loss + north.counts + west.counts + east.counts + south.counts
+    own.loss + sides.north.counts + sides.west.counts + sides.east.counts + sides.south.counts
+}
+
+// What is known of a cell's temperature: its heat and what the held cells around it give.
+fn source(own: FreeRecord, sides: Sides<Side>) -> i64
+    ensures value { result ≡ own.heat +ℤ (sides.north.given +ℤ (sides.west.given +ℤ (sides.east.given +ℤ sides.south.given))) }
+    ensures size { unsigned_abs result ≤ 5000000000000 }
+{
+    sum_of_five(
+        own.heat,
+        sides.north.given,
+        sides.west.given,
+        sides.east.given,
+        sides.south.given,
+    )
+}
+
+fn look_around<G: Ground>(ground: &G, shape: Shape, index: usize, own: FreeRecord) -> Sides<Side>
+    requires on { OnPlan (G.plan ground.now) index }
+    requires wide { shape.wide ≡ (G.plan ground.now).wide }
+    ensures { SidesOf (G.plan ground.now) index own result }
+{
+    Sides {
+        north: look_toward(ground, index, north(shape, index), own.north),
+        west: look_toward(ground, index, west(shape, index), own.west),
+        east: look_toward(ground, index, east(shape, index), own.east),
+        south: look_toward(ground, index, south(shape, index), own.south),
+    }
 }
 
 fn equation<G: Ground>(ground: &G, shape: Shape, index: usize, own: FreeRecord) -> Stencil
@@ -23,17 +50,11 @@ fn equation<G: Ground>(ground: &G, shape: Shape, index: usize, own: FreeRecord) 
     requires here { free own.north own.west own.east own.south own.loss own.heat ≡ at (G.plan ground.now) index }
     ensures { Equation (G.plan ground.now) index result }
 {
-    let n = look_toward(ground, index, north(shape, index), own.north);
-    let w = look_toward(ground, index, west(shape, index), own.west);
-    let e = look_toward(ground, index, east(shape, index), own.east);
-    let s = look_toward(ground, index, south(shape, index), own.south);
+    let sides = look_around(ground, shape, index, own);
     Stencil {
-        north: n.arm,
-        west: w.arm,
-        east: e.arm,
-        south: s.arm,
-        diagonal: diagonal(own.loss, n, w, e, s),
-        source: sum_of_five(own.heat, n.given, w.given, e.given, s.given),
+        arms: sides.map(|side| side.arm),
+        diagonal: diagonal(own, sides),
+        source: source(own, sides),
     }
 }
 

@@ -5,4 +5,5 @@ mod kept;
 pub mod laid;
 pub mod lay;
 pub mod side;
+pub mod sides;
 pub mod types;

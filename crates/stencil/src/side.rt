@@ -1,18 +1,10 @@
 ghost use Rattle.std.specs.Prelude.{◌≡◌, ◌+◌, ◌-◌, ◌%◌, ◌<◌, ◌≤◌, if◌then◌else◌, Some, None, nat_le, nat_lt};
 ghost use Rattle.stencil.specs.Stencils.{SideOf, toward, OnPlan};
 
-use crate::types::Arm;
+use crate::types::{Arm, Side};
 use ground::ground::Ground;
 use number::weighed;
 use section::types::{Record, Shape};
-
-// What one side of a free cell brings into its equation.
-#[derive(Clone, Copy)]
-pub struct Side {
-    pub counts: u16,
-    pub arm: Arm,
-    pub given: i64,
-}
 
 // The neighbours of a cell, each if it lies on the plan.
 pub(crate) fn north(shape: Shape, index: usize) -> Option<usize>

@@ -1,15 +1,17 @@
 -- The ends of brackets at a site.
-use Rattle.std.proofs.Common.{◌≡◌, ℕ, ◌≤◌, List, ℤ, pos, ◌+ℤ◌, ◌*ℤ◌, nat_abs, refl, ◌∙◌, arith}
+use Rattle.std.proofs.Common.{◌≡◌, ℕ, ◌≤◌, List, ℤ, ◌+ℤ◌, nat_abs, refl, ap, ◌∙◌, arith}
 use Rattle.std.proofs.lemmas.Int.{ints}
 use Rattle.std.proofs.lemmas.Bool.{ne_eqb}
 use Rattle.std.specs.Int.{int_max, int_min}
 use Rattle.number.specs.Rounding.{floor, ceiling}
 use Rattle.number.proofs.Words.{word}
 use Rattle.section.specs.Plan.{Plan}
-use Rattle.section.specs.Reading.{row_bracket, widest}
+use Rattle.section.specs.Reading.{plain, row_bracket, widest}
 use Rattle.section.specs.declared.rows.BracketRow.{BracketRow}
 use Rattle.section.specs.declared.types.Bracket.{Bracket}
-use Rattle.stencil.specs.declared.types.Stencil.{Stencil}
+use Rattle.stencil.specs.Sides.{OnSides, AcrossSides}
+use Rattle.stencil.specs.Stencils.{weighed_sum}
+use Rattle.stencil.specs.declared.sides.Sides.{Sides}
 use Rattle.walk.specs.Sites.{Sees, Keeps}
 use Rattle.walk.specs.declared.types.Site.{Site}
 use Rattle.walk.specs.declared.types.Turn.{Turn}
@@ -17,23 +19,38 @@ use Rattle.walk.specs.declared.types.Turn.TheVariants.{Stay, Put, Stop}
 use Rattle.steps.specs.Steps.{AnyRow}
 use Rattle.steps.specs.AtSites.{site_end}
 use Rattle.steps.specs.Tightening.{lows, highs, narrow_to, tighten_turn, tightening}
-use Rattle.steps.proofs.Sizes.{entry-back, large-back}
+use Rattle.steps.proofs.Sizes.{entry-word, entry-back, large-back}
+
+-- one end of the brackets around a site, as code sums it up
+module _ (end : BracketRow → ℤ) (small : (b : Bracket) → nat_abs (end (plain b)) ≤ 2000000000) (bs : Sides Bracket) (xs : Sides ℤ)
+    (read : AcrossSides (λ b y. y ≡ word (end (plain b))) bs xs) where
+  pub ends_small : OnSides (λ y. nat_abs y ≤ 2000000000) xs
+  ends_small = record {
+    north = rw read.north (entry-word (end (plain bs.north)) (small bs.north));
+    west = rw read.west (entry-word (end (plain bs.west)) (small bs.west));
+    east = rw read.east (entry-word (end (plain bs.east)) (small bs.east));
+    south = rw read.south (entry-word (end (plain bs.south)) (small bs.south));
+  }
+
+  one : (r : BracketRow) (b : Bracket) (y : ℤ) → plain b ≡ row_bracket r → y ≡ word (end (plain b)) → y ≡ end (row_bracket r)
+  one r b y e q = q ∙ entry-back (end (plain b)) (small b) ∙ ap end e
+
+  pub end_seen :
+      (site : Site BracketRow) (x : ℤ) → AcrossSides (λ r b. plain b ≡ row_bracket r) site.around bs →
+      x ≡ site.stencil.source +ℤ weighed_sum site.stencil.arms xs → nat_abs x ≤ 13000000000000 → word x ≡ site_end end site
+  end_seen site x e v b =
+      large-back x b ∙ v ∙ rw (
+        one site.around.north bs.north xs.north e.north read.north,
+        one site.around.west bs.west xs.west e.west read.west,
+        one site.around.east bs.east xs.east e.east read.east,
+        one site.around.south bs.south xs.south e.south read.south,
+      ) refl
 
 pub low_abs : (b : Bracket) → nat_abs b.lo ≤ 2000000000
 low_abs b = omega (arith, ints, b.lo_least, b.hi_most, b.ordered)
 
 pub high_abs : (b : Bracket) → nat_abs b.hi ≤ 2000000000
 high_abs b = omega (arith, ints, b.lo_least, b.hi_most, b.ordered)
-
--- one end of the brackets around a site, as code sums it up
-pub end_seen :
-    (st : Stencil) (x n w e s n' w' e' s' : ℤ) →
-    x ≡ st.source +ℤ (pos st.north.weight *ℤ word n +ℤ (pos st.west.weight *ℤ word w +ℤ (pos st.east.weight *ℤ word e +ℤ pos st.south.weight *ℤ word s))) →
-    nat_abs x ≤ 13000000000000 → nat_abs n ≤ 2000000000 → nat_abs w ≤ 2000000000 → nat_abs e ≤ 2000000000 → nat_abs s ≤ 2000000000 →
-    n ≡ n' → w ≡ w' → e ≡ e' → s ≡ s' →
-    word x ≡ st.source +ℤ (pos st.north.weight *ℤ n' +ℤ (pos st.west.weight *ℤ w' +ℤ (pos st.east.weight *ℤ e' +ℤ pos st.south.weight *ℤ s')))
-end_seen st x n w e s n' w' e' s' v b bn bw be bs en ew ee es =
-    large-back x b ∙ v ∙ rw (entry-back n bn ∙ en, entry-back w bw ∙ ew, entry-back e be ∙ ee, entry-back s bs ∙ es) refl
 
 pub tighten_turned :
     (d : ℕ) (t : Turn BracketRow) (lo hi low high : ℤ) (old b : BracketRow) → (d ≡ 0 → ⊥) → t ≡ narrow_to (record { lo = lo; hi = hi }) old → old ≡ b →
@@ -45,7 +62,7 @@ module _ (s : Site BracketRow) (p : Plan) (xs : List BracketRow) (i : ℕ) (see 
   pub tighten_seen :
       tighten_turn s.stencil.diagonal (site_end (λ b. b.lo) s) (site_end (λ b. b.hi) s) (row_bracket s.old) ≡ tightening p xs i
   tighten_seen =
-      rw (see.shows.north widest, see.shows.west widest, see.shows.east widest, see.shows.south widest, see.shows.old widest)
+      rw (see.shows.around widest, see.shows.old widest)
       (rw (see.equation.pulls (lows xs), see.equation.pulls (highs xs), see.equation.diagonal) refl)
 
 -- any row is fair

@@ -12,7 +12,7 @@ use Rattle.steps.specs.AtSites.{site_sum, site_load}
 module _ (s : Site Temperature) (p : Plan) (xs : List Temperature) (i : ℕ) (see : Sees p xs i s) where
   sum_is : site_sum s ≡ pull p (temperatures xs) i
   sum_is =
-      rw (see.shows.north (record { value = pos 0 }), see.shows.west (record { value = pos 0 }), see.shows.east (record { value = pos 0 }), see.shows.south (record { value = pos 0 }))
+      rw (see.shows.around (record { value = pos 0 }))
       (see.equation.pulls (temperatures xs))
 
   pub relax_seen : (k : ℤ) → relax_turn k s.stencil.diagonal (site_sum s) s.old.value ≡ relaxing k p xs i
@@ -21,7 +21,7 @@ module _ (s : Site Temperature) (p : Plan) (xs : List Temperature) (i : ℕ) (se
 module _ (s : Site Majorant) (p : Plan) (xs : List Majorant) (i : ℕ) (see : Sees p xs i s) where
   load_is : site_load s ≡ load p (heights xs) i
   load_is =
-      rw (see.shows.north (record { value = pos 0 }), see.shows.west (record { value = pos 0 }), see.shows.east (record { value = pos 0 }), see.shows.south (record { value = pos 0 }))
+      rw (see.shows.around (record { value = pos 0 }))
       (see.equation.loads (heights xs))
 
   pub raise_seen : (g : ℕ) → raise_turn g s.stencil.diagonal (site_load s) (nat_abs s.old.value) ≡ raising g p xs i

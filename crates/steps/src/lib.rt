@@ -1,6 +1,7 @@
 // The steps of the walks: relaxing temperatures, raising majorants and tightening brackets.
 #![tactic(auto)]
 
+pub mod height;
 pub mod print;
 pub mod raise;
 pub mod relax;

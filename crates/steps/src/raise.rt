@@ -5,20 +5,12 @@ ghost use Rattle.walk.specs.Sites.{FairSite, Sees, Keeps};
 ghost use Rattle.steps.specs.Steps.{raise_turn, raising, FairMajorant};
 ghost use Rattle.steps.specs.AtSites.{site_load};
 
+use crate::height::Height;
 use crate::rules::Raise;
 use crate::sums::load;
 use section::rows::Majorant;
 use walk::rule::Rule;
 use walk::types::{Site, Turn};
-
-// The entry of a majorant. For the crates above.
-pub fn height(entry: Majorant) -> u64
-    requires { FairMajorant entry }
-    ensures value { result ≡ unsigned_abs entry.value }
-    ensures most { result ≤ 500000 }
-{
-    entry.value as u64
-}
 
 // The least entry that gives a cell the margin, over the entries around it.
 fn raised(margin: u64, diagonal: u16, sum: u64) -> u64
@@ -40,18 +32,12 @@ fn raise_at(margin: Raise, site: &Site<Majorant>) -> Turn<Majorant>
     if diagonal == 0 {
         return Turn::Stop;
     }
-    let sum = load(
-        &site.stencil,
-        height(site.north),
-        height(site.west),
-        height(site.east),
-        height(site.south),
-    );
+    let sum = load(&site.stencil, site.around.map(Height::of));
     let new = raised(margin.margin as u64, diagonal, sum);
     if new > 500_000 {
         return Turn::Stop;
     }
-    if new == height(site.old) {
+    if new == Height::of(site.old).value {
         Turn::Stay
     } else {
         Turn::Put(Majorant { value: new as i64 })

@@ -1,40 +1,34 @@
-ghost use Rattle.std.specs.Prelude.{◌≡◌, ℕ, ◌*◌, ◌≤◌, List, pos, negsuc, ◌+ℤ◌, ◌-ℤ◌, ◌*ℤ◌, ◌≤ℤ◌, unsigned_abs};
+ghost use Rattle.std.specs.Prelude.{◌≡◌, ℕ, ◌*◌, List, pos, negsuc, ◌+ℤ◌, ◌-ℤ◌, ◌*ℤ◌, ◌≤ℤ◌};
 ghost use Rattle.number.specs.Rounding.{nearest};
 ghost use Rattle.section.specs.Plan.{Plan};
 ghost use Rattle.walk.specs.Sites.{FairSite, Sees, Keeps};
 ghost use Rattle.steps.specs.Steps.{relaxed_to, relax_turn, relaxing, FairTemperature};
 ghost use Rattle.steps.specs.AtSites.{site_sum};
 
-use crate::rules::Relax;
+use crate::rules::{Balance, Relax};
 use crate::sums::pull;
 use number::nearest_div;
 use section::rows::Temperature;
 use walk::rule::Rule;
 use walk::types::{Site, Turn};
 
-// (factor × sum + (100 - factor) × diagonal × old) over 100 × diagonal, to the nearest.
-fn blend(factor: Relax, diagonal: u16, sum: i64, old: i64) -> i64
-    requires some { 1 ≤ diagonal }
-    requires few { diagonal ≤ 5000 }
-    requires sum { unsigned_abs sum ≤ 13000000000000 }
-    requires old { unsigned_abs old ≤ 1000000000 }
-    ensures { result ≡ nearest (factor.factor *ℤ sum +ℤ (pos 100 -ℤ factor.factor) *ℤ (pos diagonal *ℤ old)) (100 * diagonal) }
-{
-    let d = i64::from(diagonal);
-    let k = factor.factor;
-    nearest_div(k * sum + (100 - k) * (d * old), 100 * d)
-}
+impl Relax {
+    // (factor × sum + (100 - factor) × diagonal × old) over 100 × diagonal, to the nearest.
+    fn blend(self, cell: Balance) -> i64
+        ensures { result ≡ nearest (self.factor *ℤ cell.sum +ℤ (pos 100 -ℤ self.factor) *ℤ (pos cell.diagonal *ℤ cell.old)) (100 * cell.diagonal) }
+    {
+        let d = i64::from(cell.diagonal);
+        let k = self.factor;
+        nearest_div(k * cell.sum + (100 - k) * (d * cell.old), 100 * d)
+    }
 
-fn relaxed(factor: Relax, diagonal: u16, sum: i64, old: i64) -> i64
-    requires some { 1 ≤ diagonal }
-    requires few { diagonal ≤ 5000 }
-    requires sum { unsigned_abs sum ≤ 13000000000000 }
-    requires old { unsigned_abs old ≤ 1000000000 }
-    ensures value { result ≡ relaxed_to factor.factor diagonal sum old }
-    ensures least { negsuc 999999999 ≤ℤ result }
-    ensures most { result ≤ℤ pos 1000000000 }
-{
-    blend(factor, diagonal, sum, old).clamp(-1_000_000_000, 1_000_000_000)
+    fn relaxed(self, cell: Balance) -> i64
+        ensures value { result ≡ relaxed_to self.factor cell.diagonal cell.sum cell.old }
+        ensures least { negsuc 999999999 ≤ℤ result }
+        ensures most { result ≤ℤ pos 1000000000 }
+    {
+        self.blend(cell).clamp(-1_000_000_000, 1_000_000_000)
+    }
 }
 
 // What relaxing does at a site.
@@ -48,14 +42,8 @@ fn relax_at(factor: Relax, site: &Site<Temperature>) -> Turn<Temperature>
     if diagonal == 0 {
         return Turn::Stay;
     }
-    let sum = pull(
-        &site.stencil,
-        site.north.value,
-        site.west.value,
-        site.east.value,
-        site.south.value,
-    );
-    let value = relaxed(factor, diagonal, sum, old);
+    let sum = pull(&site.stencil, site.around.map(|entry| entry.value));
+    let value = factor.relaxed(Balance { diagonal, sum, old });
     if value == old {
         Turn::Stay
     } else {

@@ -57,12 +57,9 @@ fn tighten_at(site: &Site<BracketRow>) -> Turn<BracketRow>
     if diagonal == 0 {
         return Turn::Stay;
     }
-    let north = Bracket::from(site.north);
-    let west = Bracket::from(site.west);
-    let east = Bracket::from(site.east);
-    let south = Bracket::from(site.south);
-    let low = pull(&site.stencil, north.lo, west.lo, east.lo, south.lo);
-    let high = pull(&site.stencil, north.hi, west.hi, east.hi, south.hi);
+    let around = site.around.map(Bracket::from);
+    let low = pull(&site.stencil, around.map(|bracket| bracket.lo));
+    let high = pull(&site.stencil, around.map(|bracket| bracket.hi));
     let old = Bracket::from(site.old);
     let lo = lower(old.lo, low, diagonal);
     let hi = upper(old.hi, high, diagonal);

@@ -4,6 +4,7 @@ use native.Mathlib.Decide.{ℕ_discrete}
 use Rattle.std.proofs.lemmas.List.{get_or_default}
 use Rattle.section.specs.Plan.{Plan, size, is_free_at, Free}
 use Rattle.section.proofs.Cells.{free-inside}
+use Rattle.stencil.specs.Sides.{OnSides}
 use Rattle.stencil.specs.Stencils.{Equation, RowOf, Stands}
 use Rattle.stencil.specs.declared.types.Stencil.{Stencil}
 use Rattle.walk.specs.Sites.{Shows, Sees, FairSite, Walkable}
@@ -45,10 +46,21 @@ module _ {E : Type 0} (fair : E → Type 0) (p : Plan) (xs : List E) (w : Walkab
   pub fair_site : (i : ℕ) (st : Stencil) (s : Site E) → Equation p i st → Shows xs i st s → FairSite fair s
   fair_site i st s q h = record {
     old = subst fair (sym (h.old s.old)) (w.entries i q.free s.old);
-    north = subst fair (sym (h.north s.old)) (w.entries st.north.cell q.north_free s.old);
-    west = subst fair (sym (h.west s.old)) (w.entries st.west.cell q.west_free s.old);
-    east = subst fair (sym (h.east s.old)) (w.entries st.east.cell q.east_free s.old);
-    south = subst fair (sym (h.south s.old)) (w.entries st.south.cell q.south_free s.old);
+    around = subst (OnSides fair) (sym (h.around s.old)) (record {
+      north = w.entries st.arms.north.cell q.reads.north s.old;
+      west = w.entries st.arms.west.cell q.reads.west s.old;
+      east = w.entries st.arms.east.cell q.reads.east s.old;
+      south = w.entries st.arms.south.cell q.reads.south s.old;
+    });
+  }
+
+  -- the arms lie in the grid
+  pub arms_inside : (i : ℕ) (st : Stencil) → Equation p i st → OnSides (λ a. a.cell < length xs) st.arms
+  arms_inside i st q = record {
+    north = inside st.arms.north.cell q.reads.north;
+    west = inside st.arms.west.cell q.reads.west;
+    east = inside st.arms.east.cell q.reads.east;
+    south = inside st.arms.south.cell q.reads.south;
   }
 
   -- a fair entry put anywhere keeps the grid walkable

@@ -1,6 +1,7 @@
 -- When a site shows a cell of a plan with the entries of a grid.
 use Rattle.std.specs.Prelude.{◌≡◌, ℕ, List, length, slice_index_or}
 use Rattle.section.specs.Plan.{Plan, size, Free}
+use Rattle.stencil.specs.Sides.{OnSides, map_sides}
 use Rattle.stencil.specs.Stencils.{Equation}
 use Rattle.stencil.specs.declared.types.Stencil.{Stencil}
 use Rattle.walk.specs.declared.types.Site.{Site}
@@ -11,10 +12,7 @@ use Rattle.walk.specs.declared.types.Turn.TheVariants.{Stay, Put, Stop}
 pub record Shows {E : Type 0} (xs : List E) (i : ℕ) (st : Stencil) (s : Site E) : Type 0 where
   pub stencil : s.stencil ≡ st
   pub old : (d : E) → s.old ≡ slice_index_or xs i d
-  pub north : (d : E) → s.north ≡ slice_index_or xs st.north.cell d
-  pub west : (d : E) → s.west ≡ slice_index_or xs st.west.cell d
-  pub east : (d : E) → s.east ≡ slice_index_or xs st.east.cell d
-  pub south : (d : E) → s.south ≡ slice_index_or xs st.south.cell d
+  pub around : (d : E) → s.around ≡ map_sides (λ a. slice_index_or xs a.cell d) st.arms
 
 -- and the stencil is the equation of the plan there
 pub record Sees {E : Type 0} (p : Plan) (xs : List E) (i : ℕ) (s : Site E) : Type 0 where
@@ -23,10 +21,7 @@ pub record Sees {E : Type 0} (p : Plan) (xs : List E) (i : ℕ) (s : Site E) : T
 
 pub record FairSite {E : Type 0} (fair : E → Type 0) (s : Site E) : Type 0 where
   pub old : fair s.old
-  pub north : fair s.north
-  pub west : fair s.west
-  pub east : fair s.east
-  pub south : fair s.south
+  pub around : OnSides fair s.around
 
 abbrev pub Keeps : {E : Type 0} → (E → Type 0) → Turn E → Type 0
 Keeps fair Stay = Unit {0}

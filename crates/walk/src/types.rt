@@ -1,3 +1,4 @@
+use stencil::sides::Sides;
 use stencil::types::Stencil;
 
 // A free cell at its turn: its equation, its entry and the entries that its arms point at.
@@ -5,10 +6,7 @@ use stencil::types::Stencil;
 pub struct Site<E> {
     pub stencil: Stencil,
     pub old: E,
-    pub north: E,
-    pub west: E,
-    pub east: E,
-    pub south: E,
+    pub around: Sides<E>,
 }
 
 // What a cell does at its turn: keep its entry, take another, or stop the run.

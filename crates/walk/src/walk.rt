@@ -1,5 +1,6 @@
 ghost use Rattle.std.specs.Prelude.{◌≡◌, ◌<◌, length};
 ghost use Rattle.section.specs.Plan.{is_free_at, size};
+ghost use Rattle.stencil.specs.Sides.{OnSides};
 ghost use Rattle.walk.specs.Sites.{Shows, Walkable};
 ghost use Rattle.walk.specs.Walks.{walk as walk_of, walked_as};
 
@@ -12,19 +13,13 @@ use stencil::types::Stencil;
 // The site of a cell. For the crates above.
 pub fn look<E: Copy>(stencil: Stencil, grid: &[E], index: usize) -> Site<E>
     requires on { index < length grid.now }
-    requires north { stencil.north.cell < length grid.now }
-    requires west { stencil.west.cell < length grid.now }
-    requires east { stencil.east.cell < length grid.now }
-    requires south { stencil.south.cell < length grid.now }
+    requires around { OnSides (λ arm. arm.cell < length grid.now) stencil.arms }
     ensures { Shows grid.now index stencil result }
 {
     Site {
         stencil,
         old: grid[index],
-        north: grid[stencil.north.cell as usize],
-        west: grid[stencil.west.cell as usize],
-        east: grid[stencil.east.cell as usize],
-        south: grid[stencil.south.cell as usize],
+        around: stencil.arms.map(|arm| grid[arm.cell as usize]),
     }
 }
 

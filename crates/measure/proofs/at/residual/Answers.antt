@@ -1,3 +1,7 @@
+use Rattle.std.proofs.Common.{ℤ, ◌≡◌, rules}
+use Rattle.number.proofs.Words.{word}
+use Rattle.section.specs.declared.rows.Temperature.{Temperature}
+use Rattle.stencil.specs.Sides.{AcrossSides}
 use Rattle.steps.specs.AtSites.{site_sum}
 use Rattle.steps.proofs.Sizes.{own_abs, sum_seen}
 use Rattle.measure.proofs.Residuals.{own-fits, gap-fits, gap_is, gap-small}
@@ -17,7 +21,8 @@ overflow_sub-sum c =
 pub returns : goal.returns
 returns c =
     let s = c.args.site.now in
-    let sum = sum_seen s c.pull-sum.result c.requires c.pull-sum.ensures.value c.pull-sum.ensures.size in
+    let read : AcrossSides (λ (t : Temperature) (y : ℤ). y ≡ word t.value) s.around c.map.result = search rules in
+    let sum = sum_seen s c.pull-sum.result c.map.result c.requires c.pull-sum.ensures.value c.pull-sum.ensures.size read in
     let few = s.stencil.diagonal_most in
     let old = own_abs s.old c.requires.old in
     record {

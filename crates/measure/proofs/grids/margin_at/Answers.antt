@@ -1,14 +1,14 @@
 use Rattle.std.proofs.Common.{◌∙◌}
 use Rattle.section.specs.Plan.{Plan}
 use Rattle.steps.specs.Steps.{FairMajorant}
-use Rattle.measure.proofs.Rows.{site_fair}
+use Rattle.walk.proofs.Walking.{fair_site}
 use Rattle.measure.proofs.Margins.{margin-back, shown}
 use Rattle.measure.proofs.grids.margin_at.Goals as goal
 
 pub cell_margin-requires : goal.cell_margin-requires
 cell_margin-requires g c =
     let p : Plan = g.G.Ground.plan c.args.laid.now in
-    site_fair FairMajorant p c.args.grid.now c.requires.fair c.args.cell c.args.stencil c.requires.here c.look.result c.look.ensures
+    fair_site FairMajorant p c.args.grid.now c.requires.fair c.args.cell c.args.stencil c.look.result c.requires.here c.look.ensures
 
 pub returns-clause-value : goal.returns-clause-value
 returns-clause-value g c =

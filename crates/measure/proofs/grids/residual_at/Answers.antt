@@ -1,14 +1,14 @@
 use Rattle.std.proofs.Common.{nat_abs, ap, ◌∙◌}
 use Rattle.section.specs.Plan.{Plan}
 use Rattle.steps.specs.Steps.{FairTemperature}
-use Rattle.measure.proofs.Rows.{site_fair}
+use Rattle.walk.proofs.Walking.{fair_site}
 use Rattle.measure.proofs.Residuals.{shown}
 use Rattle.measure.proofs.grids.residual_at.Goals as goal
 
 pub residual-requires : goal.residual-requires
 residual-requires g c =
     let p : Plan = g.G.Ground.plan c.args.laid.now in
-    site_fair FairTemperature p c.args.grid.now c.requires.fair c.args.cell c.args.stencil c.requires.here c.look.result c.look.ensures
+    fair_site FairTemperature p c.args.grid.now c.requires.fair c.args.cell c.args.stencil c.look.result c.requires.here c.look.ensures
 
 pub returns-clause-value : goal.returns-clause-value
 returns-clause-value g c =

@@ -2,7 +2,7 @@ use Rattle.std.proofs.Common.{Some, None, sym, subst, arith}
 use Rattle.section.specs.Plan.{Plan}
 use Rattle.walk.specs.Sites.{Keeps}
 use Rattle.walk.specs.declared.types.Turn.TheVariants.{Stay, Put}
-use Rattle.walk.proofs.Walking.{row_is, row-free, inside, fair_site, put_walkable, visit_none, visit_some, visit_stop}
+use Rattle.walk.proofs.Walking.{row_is, row-free, inside, arms_inside, fair_site, put_walkable, visit_none, visit_some, visit_stop}
 use Rattle.walk.proofs.walk.once.Goals as goal
 use Rattle.walk.proofs.walk.once.Goals.{in-Some+in-Stay, in-Some+in-Put, in_default}
 
@@ -12,13 +12,11 @@ look-requires g c =
     let rows = c.rows-row-items.result.now in
     let lt = c.loop-index-test.true in
     let q = row-free p rows c.loop-index.index c.in-Some.stencil c.rows-row-items.ensures lt (row_is rows c.loop-index.index c.row-item.result (Some c.in-Some.stencil) lt c.row-item.is c.in-Some.is) in
-    let on = inside (g.R.Rule.fair c.args.rule.now) p c.loop-index.grid c.loop-index.invariant.walkable in
+    let fair = g.R.Rule.fair c.args.rule.now in
+    let v = c.loop-index.invariant.walkable in
     record {
-      on = on c.loop-index.index q.free;
-      north = on c.in-Some.stencil.north.cell q.north_free;
-      west = on c.in-Some.stencil.west.cell q.west_free;
-      east = on c.in-Some.stencil.east.cell q.east_free;
-      south = on c.in-Some.stencil.south.cell q.south_free;
+      on = inside fair p c.loop-index.grid v c.loop-index.index q.free;
+      around = arms_inside fair p c.loop-index.grid v c.loop-index.index c.in-Some.stencil q;
     }
 
 pub turn-requires : goal.turn-requires
