@@ -1,4 +1,4 @@
-use Rattle.std.proofs.Common.{◌∙◌, w64, SFits, rules}
+use Rattle.std.proofs.Common.{◌∙◌, w64}
 use Rattle.std.proofs.lemmas.List.{with_items_is}
 use Rattle.std.proofs.lemmas.Int.{to_z-of_z}
 use Rattle.replay.proofs.Making.{raise-made}
@@ -6,9 +6,6 @@ use Rattle.replay.proofs.make.raised.Goals as goal
 
 pub returns : goal.returns
 returns g c = λ bs.
-    let k : SFits w64 c.args.margin = search rules in
-    let n : SFits w64 c.args.walks = search rules in
     let filled = with_items_is c.args.majorant c.raise.new.grid (c.raise.auto.grid ∙ c.deref_mut.ensures.len) in
-    let done = c.raise.ensures in
-    raise-made c.deref_mut.ensures.value (to_z-of_z w64 c.args.margin k) (to_z-of_z w64 c.args.walks n)
-    done.answer (filled ∙ done.grid)
+    raise-made c.deref_mut.ensures.value (to_z-of_z w64 c.args.margin c.ranges.margin) (to_z-of_z w64 c.args.walks c.ranges.walks)
+    c.raise.ensures.answer (filled ∙ c.raise.ensures.grid)

@@ -1,4 +1,4 @@
-use Rattle.std.proofs.Common.{◌∙◌, w64, SFits, rules}
+use Rattle.std.proofs.Common.{◌∙◌, w64}
 use Rattle.std.proofs.lemmas.List.{with_items_is}
 use Rattle.std.proofs.lemmas.Int.{to_z-of_z}
 use Rattle.replay.proofs.Making.{relax-made}
@@ -6,9 +6,6 @@ use Rattle.replay.proofs.make.relaxed.Goals as goal
 
 pub returns : goal.returns
 returns g c = λ bs.
-    let k : SFits w64 c.args.factor = search rules in
-    let n : SFits w64 c.args.walks = search rules in
     let filled = with_items_is c.args.temperatures c.relax.new.grid (c.relax.auto.grid ∙ c.deref_mut.ensures.len) in
-    let done = c.relax.ensures in
-    relax-made c.deref_mut.ensures.value (to_z-of_z w64 c.args.factor k) (to_z-of_z w64 c.args.walks n)
-    done.answer (filled ∙ done.grid)
+    relax-made c.deref_mut.ensures.value (to_z-of_z w64 c.args.factor c.ranges.factor) (to_z-of_z w64 c.args.walks c.ranges.walks)
+    c.relax.ensures.answer (filled ∙ c.relax.ensures.grid)
