@@ -1,6 +1,5 @@
 pub mod Clears
 pub mod Margins
 mod Counts
-mod Finding
 mod Passing
 mod Writing

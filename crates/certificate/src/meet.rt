@@ -38,7 +38,7 @@ pub(crate) fn settled(basis: Basis, own: BracketRow, row: BracketRow) -> Bracket
         Basis::Alone => own,
         Basis::Joined => shared(own, old),
     };
-    if new.lo == old.lo && new.hi == old.hi {
+    if new == BracketRow::from(old) {
         row
     } else {
         new

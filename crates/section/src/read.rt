@@ -42,3 +42,14 @@ impl From<BracketRow> for Bracket {
         Bracket::new(row.lo, row.hi).unwrap_or_default()
     }
 }
+
+impl From<Bracket> for BracketRow {
+    ghost from_gives = { λ bracket row. row ≡ plain bracket };
+
+    fn from(bracket: Bracket) -> BracketRow {
+        BracketRow {
+            lo: bracket.lo,
+            hi: bracket.hi,
+        }
+    }
+}

@@ -1,4 +1,3 @@
 mod Toward
 mod Equations
-mod Rows
 mod Keeping

@@ -1,9 +1,9 @@
 -- The sides of a cell, by what lies there.
-use Rattle.std.proofs.Common.{[], ◌∷◌, ap, ◌≡◌, ℕ, ◌*◌, ◌^◌, ◌<◌, ◌≤◌, Bool, true, false, cond, T, List, ℤ, pos, negsuc, ◌*ℤ◌, nat_abs, ◌≤ℤ◌, Some, None, Option, sym, refl, subst, arith, w64, to_z, of_z}
+use Rattle.std.proofs.Common.{[], ◌∷◌, ap, ◌≡◌, ℕ, ◌*◌, ◌^◌, ◌<◌, ◌≤◌, true, cond, T, ℤ, pos, negsuc, ◌*ℤ◌, nat_abs, ◌≤ℤ◌, Some, Option, sym, refl, subst, arith, w64, to_z, of_z}
 use borrow.Author.Differences.{ints}
 use Rattle.std.proofs.lemmas.Nat.{mul-le}
 use Rattle.number.proofs.Words.{back}
-use Rattle.section.specs.Plan.{Plan, Cell, held, void, at, is_free, is_solid, Free, Link, link, counted}
+use Rattle.section.specs.Plan.{Plan, Cell, held, void, at, is_free, is_solid, Free, link, counted}
 use Rattle.section.proofs.Cells.{entry_free, entry-held, mass-free, mass-held, counted_solid}
 use Rattle.stencil.specs.Stencils.{SideOf, toward}
 use Rattle.stencil.specs.declared.types.Side.{Side}
@@ -59,18 +59,3 @@ small-back z h = rw (back z (lit z h)) h
 
 pub heat_abs : (q : ℤ) → negsuc 999999999999 ≤ℤ q → q ≤ℤ pos 1000000000000 → nat_abs q ≤ 1000000000000
 heat_abs q lo hi = omega (arith, ints)
-
--- the links toward a neighbour that may lie off the plan
-pub side_at :
-    (p : Plan) (i c : ℕ) (to : Option ℕ) (b : Bool) (j : ℕ) (s : Side) → to ≡ cond b (Some j) None → SideOf p i (toward p to c) s → SideOf p i (counted p b c j) s
-side_at p i c to b j s e h = subst (λ (ls : List Link). SideOf p i ls s) (by b) (subst (λ (o : Option ℕ). SideOf p i (toward p o c) s) e h)
-  where
-    by : (b : Bool) → toward p (cond b (Some j) None) c ≡ counted p b c j
-    by true = refl
-    by false = refl
-
-pub source_least : (z : ℤ) → nat_abs z ≤ 5000000000000 → negsuc 4999999999999 ≤ℤ z
-source_least z b = omega (arith, ints)
-
-pub source_most : (z : ℤ) → nat_abs z ≤ 5000000000000 → z ≤ℤ pos 5000000000000
-source_most z b = omega (arith, ints)

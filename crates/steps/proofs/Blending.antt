@@ -1,5 +1,5 @@
 -- The sums and products of relaxing do not overflow.
-use Rattle.std.proofs.Common.{◌≡◌, ◌+◌, ◌*◌, ◌≤◌, ℤ, pos, ◌+ℤ◌, ◌-ℤ◌, ◌*ℤ◌, nat_abs, ◌≤ℤ◌, refl, arith, w64, SFits}
+use Rattle.std.proofs.Common.{◌≡◌, ◌+◌, ◌*◌, ◌≤◌, ℤ, pos, ◌+ℤ◌, ◌-ℤ◌, ◌*ℤ◌, nat_abs, refl, arith, w64, SFits}
 use Rattle.std.proofs.lemmas.Nat.{mul-le}
 use Rattle.std.proofs.lemmas.Int.{ints}
 use Rattle.number.specs.Rounding.{nearest}
@@ -39,14 +39,8 @@ module _ (f : Relax) (c : Balance) (x : ℤ) (ex : x ≡ pos c.diagonal) where
   rest-size : nat_abs (pos 100 -ℤ f.factor) * nat_abs (pos c.diagonal *ℤ c.old) ≤ 500000000000000
   rest-size = mul-le (nat_abs (pos 100 -ℤ f.factor)) (nat_abs (pos c.diagonal *ℤ c.old)) 100 5000000000000 (gap_abs f) (omega (arith, own-size, times_abs (pos c.diagonal) c.old))
 
-  pub first_fits : SFits w64 (word f.factor *ℤ word c.sum)
-  first_fits = product_fits f.factor c.sum f.factor c.sum kb sb (omega (arith, first-size))
-
   first : word (word f.factor *ℤ word c.sum) ≡ f.factor *ℤ c.sum
   first = product_back f.factor c.sum f.factor c.sum kb sb (omega (arith, first-size))
-
-  pub own-fits : SFits w64 (word x *ℤ word c.old)
-  own-fits = product_fits x c.old (pos c.diagonal) c.old xb ob (omega (arith, own-size))
 
   own : word (word x *ℤ word c.old) ≡ pos c.diagonal *ℤ c.old
   own = product_back x c.old (pos c.diagonal) c.old xb ob (omega (arith, own-size))
@@ -70,12 +64,6 @@ module _ (f : Relax) (c : Balance) (x : ℤ) (ex : x ≡ pos c.diagonal) where
 
   divisor : word (pos 100 *ℤ word x) ≡ pos (100 * c.diagonal)
   divisor = rw xb (back (pos (100 * c.diagonal)) (omega (arith, c.few)))
-
-  pub blend_least : pos 1 ≤ℤ word (pos 100 *ℤ word x)
-  blend_least = rw divisor (omega (arith, ints, c.some, c.few))
-
-  pub blend_most : word (pos 100 *ℤ word x) ≤ℤ pos 1000000000
-  blend_most = rw divisor (omega (arith, ints, c.some, c.few))
 
   pub blend_small : nat_abs (word (word (word f.factor *ℤ word c.sum) +ℤ word (word (pos 100 -ℤ word f.factor) *ℤ word (word x *ℤ word c.old)))) ≤ 4000000000000000000
   blend_small = rw whole (omega (arith, sizes, plus_abs (f.factor *ℤ c.sum) ((pos 100 -ℤ f.factor) *ℤ (pos c.diagonal *ℤ c.old))))

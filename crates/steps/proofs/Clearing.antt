@@ -1,5 +1,5 @@
 -- A majorant that raising begins with.
-use Rattle.std.proofs.Common.{◌≡◌, ℕ, zero, suc, ◌+◌, ◌<◌, Bool, true, false, cond, List, length, get_or, set, pos, refl, ap, ◌∙◌, add-one, arith, length-set, get_or-set_other, get_or-set_same}
+use Rattle.std.proofs.Common.{◌≡◌, ℕ, zero, suc, ◌<◌, Bool, true, false, cond, List, length, get_or, set, pos, refl, ◌∙◌, arith, length-set, get_or-set_other, get_or-set_same}
 use native.Mathlib.Decide.{ℕ_discrete}
 use Rattle.std.proofs.lemmas.Int.{ints}
 use Rattle.section.specs.Plan.{Plan, size, is_free_at, Free}
@@ -8,12 +8,6 @@ use Rattle.section.proofs.Cells.{free-inside}
 use Rattle.walk.specs.Sites.{Walkable}
 use Rattle.walk.proofs.Walking.{free_true}
 use Rattle.steps.specs.Steps.{clear_to, cleared, FairMajorant}
-
-pub clear_past : (p : Plan) (i : ℕ) (ws xs : List Majorant) → xs ≡ clear_to p i ws → is_free_at p i ≡ false → xs ≡ clear_to p (i + 1) ws
-clear_past p i ws xs e n = rw (add-one, n) e
-
-pub clear-here : (p : Plan) (i : ℕ) (ws xs : List Majorant) → xs ≡ clear_to p i ws → Free p i → set xs i (record { value = pos 0 }) ≡ clear_to p (i + 1) ws
-clear-here p i ws xs e f = rw (add-one, free_true p i f) (ap (λ ys. set ys i (record { value = pos 0 })) e)
 
 length-cond : (b : Bool) (n : ℕ) (xs ys : List Majorant) → length xs ≡ n → length ys ≡ n → length (cond b xs ys) ≡ n
 length-cond true n xs ys p q = p

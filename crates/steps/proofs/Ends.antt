@@ -1,24 +1,20 @@
 -- The ends of brackets at a site.
-use Rattle.std.proofs.Common.{◌≡◌, ℕ, ◌≤◌, List, ℤ, ◌+ℤ◌, nat_abs, refl, ap, ◌∙◌, arith}
+use Rattle.std.proofs.Common.{◌≡◌, ℕ, ◌≤◌, ℤ, ◌+ℤ◌, nat_abs, refl, ap, ◌∙◌, arith}
 use Rattle.std.proofs.lemmas.Int.{ints}
 use Rattle.std.proofs.lemmas.Bool.{ne_eqb}
 use Rattle.std.specs.Int.{int_max, int_min}
 use Rattle.number.specs.Rounding.{floor, ceiling}
 use Rattle.number.proofs.Words.{word}
-use Rattle.section.specs.Plan.{Plan}
-use Rattle.section.specs.Reading.{plain, row_bracket, widest}
+use Rattle.section.specs.Reading.{plain, row_bracket}
 use Rattle.section.specs.declared.rows.BracketRow.{BracketRow}
 use Rattle.section.specs.declared.types.Bracket.{Bracket}
 use Rattle.stencil.specs.Sides.{OnSides, AcrossSides}
 use Rattle.stencil.specs.Stencils.{weighed_sum}
 use Rattle.stencil.specs.declared.sides.Sides.{Sides}
-use Rattle.walk.specs.Sites.{Sees, Keeps}
 use Rattle.walk.specs.declared.types.Site.{Site}
 use Rattle.walk.specs.declared.types.Turn.{Turn}
-use Rattle.walk.specs.declared.types.Turn.TheVariants.{Stay, Put, Stop}
-use Rattle.steps.specs.Steps.{AnyRow}
 use Rattle.steps.specs.AtSites.{site_end}
-use Rattle.steps.specs.Tightening.{lows, highs, narrow_to, tighten_turn, tightening}
+use Rattle.steps.specs.Tightening.{narrow_to, tighten_turn}
 use Rattle.steps.proofs.Sizes.{entry-word, entry-back, large-back}
 
 -- one end of the brackets around a site, as code sums it up
@@ -56,17 +52,3 @@ pub tighten_turned :
     (d : ℕ) (t : Turn BracketRow) (lo hi low high : ℤ) (old b : BracketRow) → (d ≡ 0 → ⊥) → t ≡ narrow_to (record { lo = lo; hi = hi }) old → old ≡ b →
     lo ≡ int_max b.lo (floor low d) → hi ≡ int_min b.hi (ceiling high d) → t ≡ tighten_turn d low high b
 tighten_turned d t lo hi low high old b some e same l h = e ∙ rw (ne_eqb d 0 some) (rw (same, l, h) refl)
-
--- the turn of a site is that of the plan which it shows
-module _ (s : Site BracketRow) (p : Plan) (xs : List BracketRow) (i : ℕ) (see : Sees p xs i s) where
-  pub tighten_seen :
-      tighten_turn s.stencil.diagonal (site_end (λ b. b.lo) s) (site_end (λ b. b.hi) s) (row_bracket s.old) ≡ tightening p xs i
-  tighten_seen =
-      rw (see.shows.around widest, see.shows.old widest)
-      (rw (see.equation.pulls (lows xs), see.equation.pulls (highs xs), see.equation.diagonal) refl)
-
--- any row is fair
-pub keeps_any : (t : Turn BracketRow) → Keeps AnyRow t
-keeps_any Stay = tt
-keeps_any (Put b) = tt
-keeps_any Stop = tt

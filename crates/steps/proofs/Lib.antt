@@ -1,5 +1,4 @@
 pub mod Sizes
-mod Seeing
 mod Blending
 mod Turning
 mod Ends

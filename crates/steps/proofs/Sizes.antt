@@ -1,5 +1,5 @@
 -- How large the sums around a cell are.
-use Rattle.std.proofs.Common.{◌≡◌, ℕ, ◌+◌, ◌*◌, ◌^◌, ◌<◌, ◌≤◌, ℤ, pos, negsuc, ◌+ℤ◌, nat_abs, ◌≤ℤ◌, sym, refl, ap, ◌∙◌, arith, w64, to_z, of_z}
+use Rattle.std.proofs.Common.{◌≡◌, ◌+◌, ◌*◌, ◌^◌, ◌<◌, ◌≤◌, ℤ, pos, negsuc, ◌+ℤ◌, nat_abs, ◌≤ℤ◌, sym, refl, ap, ◌∙◌, arith, w64, to_z, of_z}
 use Rattle.std.proofs.lemmas.Nat.{mul-le}
 use Rattle.std.proofs.lemmas.Int.{ints}
 use Rattle.stencil.specs.Sides.{OnSides, AcrossSides}
@@ -62,9 +62,6 @@ parts_small st xs small n w e s an aw ae az =
       weighed_small st.arms.east xs.east e ae small.east,
       weighed_small st.arms.south xs.south s az small.south,
     )
-
-pub load-size : (c w : ℕ) → c ≤ 1000 → w ≤ 500000 → c * w ≤ 500000000
-load-size c w few small = mul-le c w 1000 500000 few small
 
 pub fair_back : (t : Temperature) → FairTemperature t → word t.value ≡ t.value
 fair_back t f = entry-back t.value (fair_abs t f)

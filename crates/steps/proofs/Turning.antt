@@ -1,7 +1,7 @@
 -- The turn that relaxing takes, from its parts.
 use Rattle.std.proofs.Common.{◌≡◌, ◌≤◌, ℕ, nat_abs, ◌+ℤ◌, true, false, ℤ, sym, ◌∙◌, arith}
 use Rattle.std.proofs.lemmas.Int.{ints}
-use Rattle.std.proofs.lemmas.Bool.{eq-eqb, ne_eqb}
+use Rattle.std.proofs.lemmas.Bool.{ne_eqb}
 use Rattle.section.specs.declared.rows.Temperature.{Temperature}
 use Rattle.number.proofs.Words.{word}
 use Rattle.stencil.specs.Sides.{AcrossSides}
@@ -21,9 +21,6 @@ same_no : (a b : ℤ) → (a ≡ b → ⊥) → same a b ≡ false
 same_no a b n = grind (arith, ints)
 
 module _ (k : ℤ) (d : ℕ) (sum old : ℤ) where
-  pub turn_alone : d ≡ 0 → Stay ≡ relax_turn k d sum old
-  turn_alone z = rw (eq-eqb d 0 z)
-
   module _ (some : d ≡ 0 → ⊥) (new : ℤ) (e : new ≡ relaxed_to k d sum old) where
     pub turn_stay : new ≡ old → Stay ≡ relax_turn k d sum old
     turn_stay s = rw (ne_eqb d 0 some, same_yes (relaxed_to k d sum old) old (sym e ∙ s))

@@ -42,7 +42,7 @@ fn narrowed(new: BracketRow, old: Bracket) -> Turn<BracketRow>
     if new.hi < new.lo {
         return Turn::Stop;
     }
-    if new.lo == old.lo && new.hi == old.hi {
+    if new == BracketRow::from(old) {
         Turn::Stay
     } else {
         Turn::Put(new)

@@ -6,18 +6,13 @@ use Rattle.walk.proofs.Walking.{row_is, row-free, inside, arms_inside, fair_site
 use Rattle.walk.proofs.walk.once.Goals as goal
 use Rattle.walk.proofs.walk.once.Goals.{in-Some+in-Stay, in-Some+in-Put, in_default}
 
-pub look-requires : goal.look-requires
-look-requires g c =
+pub look-requires-clause-around : goal.look-requires-clause-around
+look-requires-clause-around g c =
     let p : Plan = g.G.Ground.plan c.args.laid.now in
     let rows = c.rows-row-items.result.now in
     let lt = c.loop-index-test.true in
     let q = row-free p rows c.loop-index.index c.in-Some.stencil c.rows-row-items.ensures lt (row_is rows c.loop-index.index c.row-item.result (Some c.in-Some.stencil) lt c.row-item.is c.in-Some.is) in
-    let fair = g.R.Rule.fair c.args.rule.now in
-    let v = c.loop-index.invariant.walkable in
-    record {
-      on = inside fair p c.loop-index.grid v c.loop-index.index q.free;
-      around = arms_inside fair p c.loop-index.grid v c.loop-index.index c.in-Some.stencil q;
-    }
+    arms_inside (g.R.Rule.fair c.args.rule.now) p c.loop-index.grid c.loop-index.invariant.walkable c.loop-index.index c.in-Some.stencil q
 
 pub turn-requires : goal.turn-requires
 turn-requires g c =
