@@ -22,8 +22,7 @@ pub(crate) fn tighten_laid<G: Ground>(
     ensures answer { answer_of result ≡ answer (at_first (tighten_run (G.plan laid.now) most grid.old).stopped (fault Walk 9)) (counts_of (tighten_run (G.plan laid.now) most grid.old)) }
     ensures grid { grid.new ≡ (tighten_run (G.plan laid.now) most grid.old).grid }
 {
-    let counts = run(&Tighten, laid, grid, most).map_err(|stopped| WalkFault::Crossed(
-        stopped.cell,
-    ))?;
+    let ran = run(&Tighten, laid, grid, most);
+    let counts = ran.map_err(|stopped| WalkFault::Crossed(stopped.cell))?;
     Ok(counts)
 }
