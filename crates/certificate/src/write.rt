@@ -23,10 +23,10 @@ pub(crate) fn write<G: Ground>(
     requires count { length grid.old ≡ size (G.plan laid.now) }
     ensures { grid.new ≡ written (G.plan laid.now) basis temperatures.now majorant.now grid.old }
 {
-    for cell in 0..grid.len() {
+    for (cell, row) in grid.iter_mut().enumerate() {
         if laid.is_free(cell) {
             let own = certified_at(laid, temperatures, majorant, measure, cell);
-            grid[cell] = settled(basis, own, grid[cell]);
+            *row = settled(basis, own, *row);
         }
     }
 }

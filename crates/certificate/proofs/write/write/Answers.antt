@@ -1,4 +1,5 @@
 use Rattle.std.proofs.Common.{sym, ◌∙◌, arith}
+use Rattle.std.proofs.lemmas.List.{set-get_or}
 use Rattle.section.specs.Plan.{Plan}
 use Rattle.certificate.proofs.Writing.{write_past, write_here}
 use Rattle.certificate.proofs.write.write.Goals as goal
@@ -13,6 +14,6 @@ loop-cell-preserved g c =
       so_far = elim c.if-is_free.branch [
         | then-is_free w ↦ rw w.grid-is (write_here p c.args.basis c.args.temperatures.now c.args.majorant.now c.args.grid.now c.loop-cell.cell c.loop-cell.grid so_far
             w.certified_at-own.result w.settled.result _ (sym c.is_free.ensures ∙ w.if-is_free.true) (omega (arith, c.loop-cell-test.true, c.loop-cell.invariant.count)) w.certified_at-own.ensures w.settled.ensures)
-        | else-is_free w ↦ rw w.grid-is (write_past p c.args.basis c.args.temperatures.now c.args.majorant.now c.args.grid.now c.loop-cell.cell c.loop-cell.grid so_far (sym c.is_free.ensures ∙ w.if-is_free.false))
+        | else-is_free w ↦ rw (w.grid-is, set-get_or c.loop-cell.grid c.loop-cell.cell _) (write_past p c.args.basis c.args.temperatures.now c.args.majorant.now c.args.grid.now c.loop-cell.cell c.loop-cell.grid so_far (sym c.is_free.ensures ∙ w.if-is_free.false))
       ];
     }
