@@ -1,14 +1,12 @@
 -- Proposed grids that can be certified.
 use Rattle.std.specs.Prelude.{◌≡◌, ℕ, ◌≤◌, List, unsigned_abs}
 use Rattle.section.specs.Plan.{Plan, Free}
-use Rattle.refusal.specs.Refusals.{clear}
 use Rattle.section.specs.declared.rows.Temperature.{Temperature}
 use Rattle.section.specs.declared.rows.Majorant.{Majorant}
 use Rattle.walk.specs.Sites.{Walkable}
 use Rattle.steps.specs.Steps.{FairTemperature, FairMajorant}
 use Rattle.measure.specs.Measures.{rest, margin, spread}
 use Rattle.measure.specs.declared.measure.Measure.{Measure}
-use Rattle.certificate.specs.Certifying.{proposal_check}
 
 -- the measure is that of the grids over the plan
 pub record MeasureOf (p : Plan) (us : List Temperature) (ws : List Majorant) (m : Measure) : Type 0 where
@@ -23,7 +21,8 @@ pub record Certifiable (p : Plan) (us : List Temperature) (ws : List Majorant) (
   pub useful : (k : ℕ) → Free p k → 1 ≤ m.margin
   pub near : (k : ℕ) → Free p k → spread p us ws k ≤ 1000000000
 
--- proposed grids that passed their checks
-pub record Passed (p : Plan) (us : List Temperature) (ws : List Majorant) (m : Measure) : Type 0 where
-  pub certifiable : Certifiable p us ws m
-  pub clears : proposal_check p us ws ≡ clear
+-- a ground with the grids proposed for it
+pub record Proposed (G : Type 0) : Type 0 where
+  pub base : G
+  pub us : List Temperature
+  pub ws : List Majorant

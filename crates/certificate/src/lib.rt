@@ -5,5 +5,5 @@ pub mod basis;
 pub mod certify;
 pub mod count;
 mod meet;
+mod proposal;
 pub mod propose;
-mod write;

@@ -1,17 +1,10 @@
 ghost use Rattle.std.specs.Prelude.{◌≡◌};
-ghost use Rattle.section.specs.Plan.{Free};
 ghost use Rattle.section.specs.Reading.{plain};
-ghost use Rattle.measure.specs.Measures.{certified as certified_of};
-ghost use Rattle.certificate.specs.Proposals.{Certifiable};
 ghost use Rattle.certificate.specs.Certifying.{common, crossed, settled as settled_of};
 
 use crate::basis::Basis;
-use ground::ground::Ground;
-use measure::measure::Measure;
-use section::rows::{BracketRow, Majorant, Temperature};
+use section::rows::BracketRow;
 use section::types::Bracket;
-use stencil::laid::LaidOut;
-use steps::height::Height;
 
 // What two brackets have in common.
 pub(crate) fn shared(new: BracketRow, old: Bracket) -> BracketRow
@@ -43,19 +36,4 @@ pub(crate) fn settled(basis: Basis, own: BracketRow, row: BracketRow) -> Bracket
     } else {
         new
     }
-}
-
-// The certified bracket of a free cell.
-pub(crate) fn certified_at<G: Ground>(
-    laid: &LaidOut<G>,
-    temperatures: &[Temperature],
-    majorant: &[Majorant],
-    measure: Measure,
-    cell: usize,
-) -> BracketRow
-    requires fit { Certifiable (G.plan laid.now) temperatures.now majorant.now measure }
-    requires free { Free (G.plan laid.now) cell }
-    ensures { result ≡ certified_of (G.plan laid.now) temperatures.now majorant.now cell }
-{
-    measure.certified(temperatures[cell].value, Height::of(majorant[cell]))
 }

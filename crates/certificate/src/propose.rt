@@ -1,17 +1,17 @@
-ghost use Rattle.std.specs.Prelude.{◌≡◌, ℕ, ◌<◌, ◌≤◌, ◌&&◌, length, pos, negsuc, int_lt, nat_lt, MatchResult};
-ghost use Rattle.refusal.specs.Refusals.{check_of, refuse, fault_of};
+ghost use Rattle.std.specs.Prelude.{◌≡◌, ℕ, ◌<◌, ◌≤◌, ◌&&◌, length, pos, negsuc, int_lt, nat_lt};
+ghost use Rattle.refusal.specs.Refusals.{check_of};
 ghost use Rattle.section.specs.Limits.{outside};
 ghost use Rattle.section.specs.Plan.{Free, is_free_at, size};
 ghost use Rattle.section.specs.Reading.{temperatures as temperatures_of, majorants};
 ghost use Rattle.walk.specs.Sites.{Walkable};
 ghost use Rattle.steps.specs.Steps.{heights, FairMajorant};
 ghost use Rattle.measure.specs.Measures.{cell_margin, spread_of};
-ghost use Rattle.certificate.specs.Proposals.{MeasureOf, Passed};
-ghost use Rattle.certificate.specs.Certifying.{temperature_check, majorant_check, margin_check, spread_check, proposal_check};
+ghost use Rattle.certificate.specs.Proposals.{MeasureOf};
+ghost use Rattle.certificate.specs.Certifying.{temperature_check, majorant_check, margin_check, spread_check};
 
 use ground::ground::Ground;
 use measure::grids::margin_at;
-use measure::measure::{Measure, measured};
+use measure::measure::Measure;
 use refusal::types::Refusal;
 use scan::first_failing;
 use section::rows::{Majorant, Temperature};
@@ -36,7 +36,7 @@ pub fn temperatures_fair<G: Ground>(laid: &LaidOut<G>, grid: &[Temperature]) -> 
     }
 }
 
-fn majorant_fair<G: Ground>(laid: &LaidOut<G>, grid: &[Majorant]) -> Result<(), Refusal>
+pub(crate) fn majorant_fair<G: Ground>(laid: &LaidOut<G>, grid: &[Majorant]) -> Result<(), Refusal>
     requires { length grid.now ≡ size (G.plan laid.now) }
     ensures { check_of result ≡ majorant_check (G.plan laid.now) grid.now }
 {
@@ -53,7 +53,7 @@ fn majorant_fair<G: Ground>(laid: &LaidOut<G>, grid: &[Majorant]) -> Result<(), 
     }
 }
 
-fn margins_enough<G: Ground>(laid: &LaidOut<G>, grid: &[Majorant]) -> Result<(), Refusal>
+pub(crate) fn margins_enough<G: Ground>(laid: &LaidOut<G>, grid: &[Majorant]) -> Result<(), Refusal>
     requires { Walkable FairMajorant (G.plan laid.now) grid.now }
     ensures { check_of result ≡ margin_check (G.plan laid.now) grid.now }
 {
@@ -72,7 +72,7 @@ fn margins_enough<G: Ground>(laid: &LaidOut<G>, grid: &[Majorant]) -> Result<(),
     }
 }
 
-fn spreads_near<G: Ground>(
+pub(crate) fn spreads_near<G: Ground>(
     laid: &LaidOut<G>,
     temperatures: &[Temperature],
     grid: &[Majorant],
@@ -92,22 +92,4 @@ fn spreads_near<G: Ground>(
         Some(cell) => Err(Refusal::Spread(cell)),
         None => Ok(()),
     }
-}
-
-// What is proposed is checked, each check over the whole grid before the next, and measured.
-pub(crate) fn proposed<G: Ground>(
-    laid: &LaidOut<G>,
-    temperatures: &[Temperature],
-    majorant: &[Majorant],
-) -> Result<Measure, Refusal>
-    requires temperatures { length temperatures.now ≡ size (G.plan laid.now) }
-    requires majorant { length majorant.now ≡ size (G.plan laid.now) }
-    ensures { MatchResult result (Passed (G.plan laid.now) temperatures.now majorant.now) (λ e. proposal_check (G.plan laid.now) temperatures.now majorant.now ≡ refuse (fault_of e)) }
-{
-    temperatures_fair(laid, temperatures)?;
-    majorant_fair(laid, majorant)?;
-    margins_enough(laid, majorant)?;
-    let measure = measured(laid, temperatures, majorant);
-    spreads_near(laid, temperatures, majorant, measure)?;
-    Ok(measure)
 }

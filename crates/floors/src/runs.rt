@@ -8,7 +8,7 @@ use study::types::Study;
 // Two cells that nothing holds gain 2 by each walk, until one would pass 500,000.
 pub(crate) fn climbing(rt: &HostRuntime) -> Result<()> {
     let heap = rt.alloc();
-    let mut study = Study::new(heap, line(heap, 2, 2)?, Tolerance::new(0)?)?;
+    let study = Study::new(heap, line(heap, 2, 2)?, Tolerance::new(0)?)?;
     for walks in [250_000, 250_001] {
         let mut grid = vec![in heap; Majorant { value: 0 }; 2]?;
         let raised = study.raise(&mut grid, 1, walks)?;

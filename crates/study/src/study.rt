@@ -13,7 +13,7 @@ use layers::layer::PinLayer;
 use refusal::types::Refusal;
 use section::limits::within;
 use section::rows::{Majorant, Temperature};
-use section::types::{Record, Shape, Tolerance};
+use section::types::{Shape, Tolerance};
 use std::alloc::{AllocFailed, Global};
 use stencil::laid::LaidOut;
 use steps::report::Raised;
@@ -53,11 +53,7 @@ impl<G: Ground> Study<G> {
     pub fn is_free(&self, cell: usize) -> bool
         ensures { result ≡ is_free_at (equations_of G.plan self.now) cell }
     {
-        match self.layer.record(cell) {
-            Record::Free(_) => true,
-            Record::Held(_) => false,
-            Record::Void => false,
-        }
+        self.layer.is_free(cell)
     }
 
     // The free cells with no bracket, or one wider than the tolerance.
