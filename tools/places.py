@@ -41,7 +41,7 @@ def shape(text):
 # 1
 each("1 own enum", r"^ *(?:pub(?:\(crate\))? )?enum [A-Z]\w*")
 each("1 flag in a struct", r"^ *(?:pub(?:\(crate\))? )?[a-z_]+: bool,$")
-each("1 fault in an Option beside a value", r"^ *(?:pub )?\w+: Option<(?:usize|i64)>,$")
+each("1 fault or kind in an Option beside a value", r"^    (?:pub )?(?:stopped|first): Option<\w+>,$")
 each("1 flag for a write that was not made", r"fn (?:write|put)\b.*-> bool")
 each("1 value beside a flag", r"for \(\w+, (?:on|is|has)_\w+\)")
 each("1 error thrown away and named anew", r"Err\(_\) => ")
@@ -59,7 +59,7 @@ for same in shapes.values():
 each("2 struct that captures slices for one method", r"^impl \w*Check for \w+")
 
 # 3
-each("3 loop over a counted index", r"^ *for \w+ in [^{]*\.\.[^{]* \{")
+each("3 loop over a counted index", r"^ *for (?!_ )\w+ in [^{]*\.\.[^{]* \{")
 each("3 while or loop", r"^ *(?:while|loop)\b")
 
 # 4
@@ -96,7 +96,7 @@ for (a, b), n in pairs.items():
         places.setdefault("5 parameters that travel together (four functions or more)", []).append(f"{n} functions: {a[0]}: {a[1]}, {b[0]}: {b[1]}")
 
 # 6
-each("6 room or table of a fixed size", r"with_capacity\(\w+, \d+\)|: \[[^;\]]+; (?:N|\d+)\]")
+each("6 room or table of a fixed size", r"with_capacity\(\w+, \d+\)|^ *(?:pub(?:\(crate\))? )?\w+: \[[^;\]]+; (?:N|\d+)\],$")
 each("6 list searched by a loop", r"^ *for [^{]* \{\n *if (?:let Some\(\w+\) = \w+ \{\n *if )?\w+\.\w+ == \w+ \{\n *return")
 each("6 list of lists of bytes", r"Vec<Vec<u8>>")
 
