@@ -1,5 +1,3 @@
-ghost use Rattle.layers.specs.Layers.{laid_plan};
-
 use crate::laid::Laid;
 use crate::table::{Loss, Table};
 use ground::ground::Ground;
@@ -19,7 +17,7 @@ pub type PinLayer<G> = Layer<G, Table<HeldRecord, 32>>;
 pub type LossLayer<G> = Layer<G, Table<Loss, 16>>;
 
 impl<G: Ground, T: Laid> Ground for Layer<G, T> {
-    ghost plan = { λ s. laid_plan (T.Laid.laying s.table) (G.Ground.plan s.below) };
+    ghost plan = { λ s. T.Laid.over_plan s.table (G.Ground.plan s.below) };
 
     fn shape(&self) -> Shape {
         self.below.shape()

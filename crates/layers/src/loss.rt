@@ -1,6 +1,6 @@
-ghost use Rattle.std.specs.Prelude.{◌≡◌, ℕ, ◌+◌, is_some, if◌then◌else◌, Some, None, unsigned_abs};
+ghost use Rattle.std.specs.Prelude.{◌≡◌, ℕ, ◌+◌, is_some, if◌then◌else◌, Some, None, unsigned_abs, refl};
 ghost use Rattle.refusal.specs.Refusals.{answer, answer_of, unless_refused};
-ghost use Rattle.layers.specs.Layers.{altered, losing, loss_at, loss_check};
+ghost use Rattle.layers.specs.Layers.{altered, losing, loss_at, loss_check, loss_plan};
 ghost use Rattle.layers.specs.Tables.{lookup, used};
 
 use crate::laid::Laid;
@@ -13,6 +13,10 @@ use section::types::{FreeRecord, Record};
 
 impl Laid for Table<Loss, 16> {
     ghost laying = { λ t i c. losing (loss_at t.places i) c };
+
+    ghost over_plan = { λ t p. loss_plan t.places p };
+
+    ghost by_cells = { λ t p. refl };
 
     fn lay_over(&self, index: usize, below: Record) -> Record {
         match (self.find(index), below) {

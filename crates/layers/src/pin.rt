@@ -1,7 +1,7 @@
-ghost use Rattle.std.specs.Prelude.{◌≡◌, ℕ, ◌+◌, ◌-◌, false, is_some, Some, None, MatchResult, nat_le};
+ghost use Rattle.std.specs.Prelude.{◌≡◌, ℕ, ◌+◌, ◌-◌, false, is_some, Some, None, MatchResult, nat_le, refl};
 ghost use Rattle.refusal.specs.Refusals.{refuse, when, fault, fault_of, answer, answer_of, unless_refused};
 ghost use Rattle.refusal.specs.declared.types.Level.TheVariants.{Table as AtTable};
-ghost use Rattle.layers.specs.Layers.{altered, over, pin_check, pinned_at, release_check};
+ghost use Rattle.layers.specs.Layers.{altered, over, pin_check, pin_plan, pinned_at, release_check};
 ghost use Rattle.layers.specs.Tables.{lookup, used};
 
 use crate::laid::Laid;
@@ -14,6 +14,10 @@ use section::types::{HeldRecord, Record};
 
 impl Laid for Table<HeldRecord, 32> {
     ghost laying = { λ t i c. over (pinned_at t.places i) c };
+
+    ghost over_plan = { λ t p. pin_plan t.places p };
+
+    ghost by_cells = { λ t p. refl };
 
     fn lay_over(&self, index: usize, below: Record) -> Record {
         self.find(index).map_or(below, Record::Held)
