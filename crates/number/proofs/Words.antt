@@ -18,6 +18,9 @@ plus_abs a b = omega (arith, ints)
 pub fits_abs : (z : ℤ) → nat_abs z < 2 ^ 63 → SFits w64 z
 fits_abs z h = omega (arith, ints)
 
+pub word_abs : (z : ℤ) → SFits w64 z → nat_abs z ≤ 2 ^ 63
+word_abs z h = omega (arith, ints)
+
 -- to its bits and back
 abbrev pub word : ℤ → ℤ
 word z = to_z w64 (of_z w64 z)

@@ -1,7 +1,8 @@
 -- What cells stand for, by their kind.
-use Rattle.std.proofs.Common.{◌≡◌, ℕ, suc, ◌+◌, ◌*◌, ◌<◌, true, cond, T, List, [], ◌∷◌, ◌++◌, ℤ, ◌+ℤ◌, sym, refl, ap, ◌∙◌, subst, arith}
+use Rattle.std.proofs.Common.{◌≡◌, ℕ, suc, ◌+◌, ◌*◌, ◌<◌, ◌≤◌, true, false, cond, T, List, [], ◌∷◌, ◌++◌, ℤ, ◌+ℤ◌, sym, refl, ap, ◌∙◌, subst, arith}
 use native.Mathlib.Decide.{dec_le}
 use borrow.Author.Differences.{ints}
+use Rattle.std.proofs.lemmas.Nat.{mul-le}
 use Rattle.std.proofs.lemmas.List.{get_or_past}
 use Rattle.section.specs.declared.types.Shape.{Shape}
 use Rattle.section.specs.Plan.{Plan, Cell, free, held, void, at, size, is_free, is_solid, Free, Link, link, counted, dot, dot_n, weights, entry, entry_of, mass, mass_of}
@@ -57,6 +58,13 @@ pub counted_solid : (p : Plan) (c j : ℕ) (k : Cell) → k ≡ at p j → is_so
 counted_solid p c j k e s =
     let P : Cell → Type 0 = λ x. cond (is_solid x) (link c j ∷ []) [] ≡ link c j ∷ [] in
     subst P e (rw s refl)
+
+-- a plan of a shape has at most 64 by 64 cells
+pub few-cells : (p : Plan) (s : Shape) → s.wide ≡ p.wide → s.high ≡ p.high → size p ≤ 4096
+few-cells p s w h = omega (arith, p.full, mul-le p.wide p.high 64 64 (omega (arith, s.wide_most)) (omega (arith, s.high_most)))
+
+pub not_free : (p : Plan) (i : ℕ) (k : Cell) → k ≡ at p i → is_free k ≡ false → Free p i → ⊥
+not_free p i k e n f = subst T n (subst (λ (x : Cell). T (is_free x)) (sym e) f)
 
 -- the number of cells that a shape answers is that of the plan
 pub shape_size : (p : Plan) (s : Shape) (n : ℕ) → s.wide ≡ p.wide → s.high ≡ p.high → n ≡ s.wide * s.high → n ≡ size p
