@@ -18,8 +18,8 @@ impl fmt::Display for Majorant {
     ghost output = { λ entry. Some (signed_decimal entry.value) };
 
     fn fmt<W: fmt::Write>(&self, f: &mut fmt::Formatter<W>) -> fmt::Result {
-        let value = self.value;
-        write!(f, "{value}")
+        let bound = self.value;
+        write!(f, "{bound}")
     }
 }
 
