@@ -1,8 +1,9 @@
 -- What a search of a layer's table tells, and an empty table.
-use Rattle.std.proofs.Common.{◌≡◌, ℕ, zero, suc, ◌+◌, ◌<◌, ◌≤◌, Bool, true, false, not, cond, eqb, List, [], ◌∷◌, length, get_or, replicate, is_none, Some, None, Option, sym, refl, ap, ◌∙◌, inl, inr, position, arith}
+use Rattle.std.proofs.Common.{◌≡◌, ℕ, zero, suc, ◌+◌, ◌<◌, ◌≤◌, Bool, true, false, not, cond, eqb, List, [], ◌∷◌, length, get_or, replicate, is_none, Some, None, Option, sym, refl, ap, ◌∙◌, inl, inr, position, count_by, is_some, arith}
 use Rattle.std.specs.List.{position_or_len}
 use Rattle.std.specs.Option.{option_map, option_or}
 use Rattle.std.proofs.lemmas.List.{get_or_default}
+use Rattle.std.proofs.lemmas.List.Sums.{sum_by-cons}
 use Rattle.std.proofs.lemmas.List.Quantifiers.{position-Some}
 use Rattle.std.proofs.lemmas.Bool.Decides.{nat_tests}
 use Rattle.layers.specs.Tables.{lookup, used, apart, lists, listing}
@@ -20,6 +21,18 @@ used_empty X (suc n) = used_empty X n
 pub apart_empty : (X : Type 0) (n : ℕ) → apart {X = X} (replicate n None) ≡ true
 apart_empty X zero = refl
 apart_empty X (suc n) = apart_empty X n
+
+-- the places that list a cell are as many as the cells listed
+pub counted : {X : Type 0} (places : List (Option (Entry X))) → count_by (λ o. is_some o) places ≡ used places
+counted [] = refl
+counted (None ∷ places) = omega (arith, sum_by-cons (λ o. cond (is_some o) 1 0) None places, counted places)
+counted (Some e ∷ places) = omega (arith, sum_by-cons (λ o. cond (is_some o) 1 0) (Some e) places, counted places)
+
+-- where none is listed, the cell is not
+pub none_listed : {X : Type 0} (places : List (Option (Entry X))) (i : ℕ) → used places ≡ 0 → lookup places i ≡ None
+none_listed [] i e = refl
+none_listed (None ∷ places) i e = none_listed places i e
+none_listed (Some x ∷ places) i e = absurd (omega arith)
 
 position-None : {X : Type 0} (p : X → Bool) (xs : List X) → position p xs ≡ None → length xs ≤ position_or_len p xs
 position-None p xs e = grind (arith, nat_tests)

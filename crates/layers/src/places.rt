@@ -2,7 +2,7 @@ ghost use Rattle.std.specs.Prelude.{◌≡◌, ℕ, true, false, is_some, None, 
 ghost use Rattle.layers.specs.Changes.{full, Entered, Removed};
 ghost use Rattle.layers.specs.Tables.{lookup, used};
 
-use crate::scan::{place_for, place_of};
+use crate::scan::{listed_in, place_for, place_of};
 use crate::table::{Entry, Table};
 use refusal::types::TableFault;
 
@@ -10,12 +10,18 @@ impl<X: Copy, const N: usize> Table<X, N> {
     pub(crate) fn new() -> Table<X, N>
         ensures { ((j : ℕ) → lookup result.places j ≡ None) × (used result.places ≡ 0) }
     {
-        Table { places: [None; N] }
+        Table {
+            places: [None; N],
+            listed: 0,
+        }
     }
 
     pub(crate) fn find(&self, cell: usize) -> Option<X>
         ensures { result ≡ lookup self.now.places cell }
     {
+        if self.listed == 0 {
+            return None;
+        }
         let place = place_of(&self.places, cell)?;
         self.places[place].map(|entry| entry.laid)
     }
@@ -38,6 +44,7 @@ impl<X: Copy, const N: usize> Table<X, N> {
             None => Err(TableFault::Full(cell)),
             Some(place) => {
                 self.places[place] = Some(Entry { cell, laid });
+                self.listed = listed_in(&self.places);
                 Ok(())
             }
         }
@@ -50,6 +57,7 @@ impl<X: Copy, const N: usize> Table<X, N> {
             None => Err(TableFault::NoPin(cell)),
             Some(place) => {
                 self.places[place] = None;
+                self.listed = listed_in(&self.places);
                 Ok(())
             }
         }

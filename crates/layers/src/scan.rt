@@ -1,6 +1,6 @@
 ghost use Rattle.std.specs.Prelude.{◌≡◌, is_none, position};
 ghost use Rattle.std.specs.Option.{option_or};
-ghost use Rattle.layers.specs.Tables.{lists};
+ghost use Rattle.layers.specs.Tables.{lists, used};
 
 use crate::table::Entry;
 
@@ -25,4 +25,12 @@ pub(crate) fn place_for<X: Copy>(places: &[Option<Entry<X>>], cell: usize) -> Op
     ensures { result ≡ option_or (position (λ o. lists o cell) places.now) (position (λ o. is_none o) places.now) }
 {
     place_of(places, cell).or_else(|| room(places))
+}
+
+// How many cells are listed.
+#[tactic(auto, using(crate::proofs::Reading::counted))]
+pub(crate) fn listed_in<X: Copy>(places: &[Option<Entry<X>>]) -> usize
+    ensures { result ≡ used places.now }
+{
+    places.iter().filter(|place| place.is_some()).count()
 }

@@ -1,5 +1,5 @@
 ghost use Rattle.std.specs.Prelude.{◌≡◌, ◌≤◌, true, length};
-ghost use Rattle.layers.specs.Tables.{apart};
+ghost use Rattle.layers.specs.Tables.{apart, used};
 
 // A loss weight that replaces a free cell's own.
 #[derive(Clone, Copy)]
@@ -15,10 +15,13 @@ pub struct Entry<X> {
     pub laid: X,
 }
 
-// A layer's table: at most N cells, each listed once.
+// A layer's table: at most N cells, each listed once. How many there are is kept, so that a table
+// with none is not searched.
 #[derive(Drop)]
 pub struct Table<X, const N: usize> {
     pub(crate) places: [Option<Entry<X>>; N],
+    pub(crate) listed: usize,
     ghost full: { length places ≡ N },
     ghost once: { apart places ≡ true },
+    ghost count: { listed ≡ used places },
 }

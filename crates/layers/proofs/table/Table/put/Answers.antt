@@ -10,6 +10,7 @@ invariant_of-self g c =
     record {
       full = length-set table.places _ _ ∙ table.full;
       once = entered-apart g.row.N table.places c.in-Some.place (record { cell = c.args.cell; laid = c.args.laid }) table.full table.once told.0 told.1;
+      count = c.listed_in-self.ensures;
     }
 
 pub returns-in-Some : goal.returns-in-Some

@@ -7,7 +7,7 @@ pub invariant_of-self : goal.invariant_of-self
 invariant_of-self g c =
     let table = c.args.self.now in
     let told = place_lists table.places c.args.cell c.in-Some.place c.in-Some.ensures in
-    record { full = length-set table.places _ _ ∙ table.full; once = cleared-apart table.places _ _ told.1 table.once }
+    record { full = length-set table.places _ _ ∙ table.full; once = cleared-apart table.places _ _ told.1 table.once; count = c.listed_in-self.ensures }
 
 pub returns-in-Some : goal.returns-in-Some
 returns-in-Some g c =
