@@ -11,7 +11,7 @@ use Rattle.section.specs.declared.types.Shape.{Shape}
 use Rattle.stencil.specs.Keeping.{kept_plan}
 
 -- plans of one shape with the same cells are one plan
-plan-same : (p q : Plan) → p.wide ≡ q.wide → p.high ≡ q.high → p.cells ≡ q.cells → p ≡ q
+pub plan-same : (p q : Plan) → p.wide ≡ q.wide → p.high ≡ q.high → p.cells ≡ q.cells → p ≡ q
 plan-same p q w h c =
     let full : PathP (λ i. length (c i) ≡ w i * h i) p.full q.full = to_path_p (λ i. length (c i) ≡ w i * h i) (ℕ_set _ _ _ _) in
     λ i. record { wide = w i; high = h i; cells = c i; full = full i }

@@ -1,3 +1,6 @@
 mod Toward
 mod Equations
 mod Keeping
+mod Nearness
+mod Places
+mod Rows

@@ -1,3 +1,4 @@
 pub mod Sides
 pub mod Stencils
 pub mod Keeping
+pub mod Laying

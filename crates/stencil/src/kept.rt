@@ -1,6 +1,6 @@
-ghost use Rattle.std.specs.Prelude.{◌≡◌, ℕ, ◌<◌, ◌≤◌, vec_len, vec_capacity, slice_index_or};
-ghost use Rattle.section.specs.Plan.{meant, at, size};
+ghost use Rattle.std.specs.Prelude.{◌≡◌, ◌≤◌, vec_capacity, slice_index_or};
 ghost use Rattle.stencil.specs.Keeping.{kept_plan};
+ghost use Rattle.stencil.specs.Laying.{RecordsOf};
 ghost use Rattle.section.specs.declared.types.Record.TheVariants.{Void};
 
 use ground::ground::Ground;
@@ -43,8 +43,7 @@ impl Ground for Kept<'_> {
 // Reads the records of a ground, in room that is there already.
 pub(crate) fn keep<G: Ground>(ground: &G, records: &mut Vec<Record>)
     requires { 4096 ≤ vec_capacity records.old }
-    ensures count { vec_len records.new ≡ size (G.plan ground.now) }
-    ensures cells { (k : ℕ) → k < size (G.plan ground.now) → meant (slice_index_or records.new.items k Void) ≡ at (G.plan ground.now) k }
+    ensures kept { RecordsOf (G.plan ground.now) records.new.items }
     ensures capacity { vec_capacity records.new ≡ vec_capacity records.old }
 {
     records.clear();

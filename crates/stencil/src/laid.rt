@@ -1,16 +1,19 @@
-ghost use Rattle.std.specs.Prelude.{◌≡◌, MatchResult};
+ghost use Rattle.std.specs.Prelude.{◌≡◌, Result, MatchResult, count_by};
+ghost use Rattle.std.specs.List.{range_with_len};
 ghost use Rattle.std.specs.Fn.{FnOnceReturnsAtMut};
-ghost use Rattle.section.specs.Plan.{is_free_at};
+ghost use Rattle.section.specs.Plan.{free_count, is_free_at};
+ghost use Rattle.stencil.specs.Laying.{ChangedAt};
 ghost use Rattle.stencil.specs.Stencils.{RowOf, Stands};
 
-use crate::lay::lay;
+use crate::lay::{lay, lay_around};
 use crate::types::Stencil;
 use ground::ground::Ground;
 use section::types::{Record, Shape};
 use std::alloc::{AllocFailed, Global};
 use std::marker::Model;
 
-// A ground with its equations laid out, in room that it takes once: a caller sees the ground.
+// A ground with its records read and its equations laid out, in room that it takes once: a caller
+// sees the ground.
 #[derive(Drop)]
 pub struct LaidOut<G: Ground> {
     ground: G,
@@ -20,13 +23,13 @@ pub struct LaidOut<G: Ground> {
 
 impl<G: Ground> Model for LaidOut<G> {
     ghost use Rattle.std.specs.Prelude.{◌≤◌, vec_capacity};
-    ghost use Rattle.stencil.specs.Stencils.{Stands};
+    ghost use Rattle.stencil.specs.Laying.{LaidOf};
 
     ghost Value = { G };
 
     ghost view = { λ s. s.ground };
 
-    ghost invariant = { λ s. (4096 ≤ vec_capacity s.records) × (4096 ≤ vec_capacity s.rows) × Stands (G.plan s.ground) s.rows.items };
+    ghost invariant = { λ s. (4096 ≤ vec_capacity s.records) × (4096 ≤ vec_capacity s.rows) × LaidOf (G.plan s.ground) s.records.items s.rows.items };
 }
 
 impl<G: Ground> LaidOut<G> {
@@ -73,6 +76,20 @@ impl<G: Ground> LaidOut<G> {
         self.row(cell).is_some()
     }
 
+    // How many cells have an equation: no record is asked for. For the crates above.
+    pub fn free_cells(&self) -> usize
+        ensures { result ≡ free_count (G.plan self.now) }
+    {
+        self.free_among(self.rows.len())
+    }
+
+    // How many of the first cells are free.
+    fn free_among(&self, cells: usize) -> usize
+        ensures { result ≡ count_by (is_free_at (G.plan self.now)) (range_with_len 0 cells) }
+    {
+        (0..cells).filter(|cell| self.is_free(*cell)).count()
+    }
+
     // Alters the ground, and lays its equations out anew. For the crates above.
     pub fn update<R, F: FnOnce(&mut G) -> R>(&mut self, change: F) -> R
         requires { F.IsAlwaysCallable change }
@@ -80,6 +97,25 @@ impl<G: Ground> LaidOut<G> {
     {
         let answer = change(&mut self.ground);
         lay(&self.ground, &mut self.records, &mut self.rows);
+        answer
+    }
+
+    // Alters the ground at one cell, if the change is not refused: the equations of the cells near
+    // it are laid out anew. For the crates above.
+    pub fn update_at<R, E, F: FnOnce(&mut G) -> Result<R, E>>(
+        &mut self,
+        cell: usize,
+        change: F,
+    ) -> Result<R, E>
+        requires callable { F.IsAlwaysCallable change }
+        requires alone { (r : Result R E) (after : G) → FnOnceReturnsAtMut F.FnOnce change self.old r after → MatchResult r (λ _. ChangedAt cell (G.plan self.old) (G.plan after)) (λ _. G.plan after ≡ G.plan self.old) }
+        ensures { FnOnceReturnsAtMut F.FnOnce change self.old result self.new }
+    {
+        let answer = change(&mut self.ground);
+        if answer.is_err() {
+            return answer;
+        }
+        lay_around(&self.ground, cell, &mut self.records, &mut self.rows);
         answer
     }
 }

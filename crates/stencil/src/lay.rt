@@ -1,5 +1,7 @@
-ghost use Rattle.std.specs.Prelude.{◌≡◌, ◌+◌, ◌<◌, ◌≤◌, ◌+ℤ◌, unsigned_abs, vec_capacity};
-ghost use Rattle.section.specs.Plan.{free, at, size};
+ghost use Rattle.std.specs.Prelude.{◌≡◌, ℕ, ◌+◌, ◌<◌, ◌≤◌, None, ◌+ℤ◌, unsigned_abs, slice_index_or, vec_len, vec_capacity};
+ghost use Rattle.section.specs.Plan.{Plan, free, at, size};
+ghost use Rattle.stencil.specs.Laying.{Near, ArmsNear, AllNear, LaidOf, ChangedAt};
+ghost use Rattle.stencil.specs.Sides.{OnSides};
 ghost use Rattle.stencil.specs.Stencils.{Equation, RowOf, SidesOf, Stands, OnPlan};
 
 use crate::kept::{Kept, keep};
@@ -34,7 +36,8 @@ fn source(own: FreeRecord, sides: Sides<Side>) -> i64
 fn look_around<G: Ground>(ground: &G, shape: Shape, index: usize, own: FreeRecord) -> Sides<Side>
     requires on { OnPlan (G.plan ground.now) index }
     requires wide { shape.wide ≡ (G.plan ground.now).wide }
-    ensures { SidesOf (G.plan ground.now) index own result }
+    ensures sides { SidesOf (G.plan ground.now) index own result }
+    ensures near { OnSides (λ s. Near (G.plan ground.now) index s.arm.cell) result }
 {
     Sides {
         north: look_toward(ground, index, north(shape, index), own.north),
@@ -48,7 +51,8 @@ fn equation<G: Ground>(ground: &G, shape: Shape, index: usize, own: FreeRecord) 
     requires on { OnPlan (G.plan ground.now) index }
     requires wide { shape.wide ≡ (G.plan ground.now).wide }
     requires here { free own.north own.west own.east own.south own.loss own.heat ≡ at (G.plan ground.now) index }
-    ensures { Equation (G.plan ground.now) index result }
+    ensures equation { Equation (G.plan ground.now) index result }
+    ensures near { OnSides (λ a. Near (G.plan ground.now) index a.cell) result.arms }
 {
     let sides = look_around(ground, shape, index, own);
     Stencil {
@@ -62,7 +66,8 @@ fn row<G: Ground>(ground: &G, shape: Shape, index: usize) -> Option<Stencil>
     requires wide { shape.wide ≡ (G.plan ground.now).wide }
     requires few { size (G.plan ground.now) ≤ 4096 }
     requires near { index < 4096 }
-    ensures { RowOf (G.plan ground.now) index result }
+    ensures row { RowOf (G.plan ground.now) index result }
+    ensures near { ArmsNear (G.plan ground.now) index result }
 {
     match ground.record(index) {
         Record::Free(own) => Some(equation(ground, shape, index, own)),
@@ -74,6 +79,7 @@ fn row<G: Ground>(ground: &G, shape: Shape, index: usize) -> Option<Stencil>
 fn lay_rows<G: Ground>(ground: &G, rows: &mut Vec<Option<Stencil>>)
     requires { 4096 ≤ vec_capacity rows.old }
     ensures stands { Stands (G.plan ground.now) rows.new.items }
+    ensures near { AllNear (G.plan ground.now) rows.new.items }
     ensures capacity { vec_capacity rows.new ≡ vec_capacity rows.old }
 {
     let shape = ground.shape();
@@ -85,10 +91,11 @@ fn lay_rows<G: Ground>(ground: &G, rows: &mut Vec<Option<Stencil>>)
 
 // Lays the equations of the ground out, one row for each cell, in room that is there already.
 // For the crates above.
-pub(crate) fn lay<G: Ground>(ground: &G, records: &mut Vec<Record>, rows: &mut Vec<Option<Stencil>>)
+pub fn lay<G: Ground>(ground: &G, records: &mut Vec<Record>, rows: &mut Vec<Option<Stencil>>)
     requires kept { 4096 ≤ vec_capacity records.old }
     requires laid { 4096 ≤ vec_capacity rows.old }
     ensures stands { Stands (G.plan ground.now) rows.new.items }
+    ensures whole { LaidOf (G.plan ground.now) records.new.items rows.new.items }
     ensures kept { vec_capacity records.new ≡ vec_capacity records.old }
     ensures laid { vec_capacity rows.new ≡ vec_capacity rows.old }
 {
@@ -96,4 +103,46 @@ pub(crate) fn lay<G: Ground>(ground: &G, records: &mut Vec<Record>, rows: &mut V
     let shape = ground.shape();
     let records = records.as_slice();
     lay_rows(&Kept { shape, records }, rows);
+}
+
+// Lays the rows from `first` to `end` anew.
+fn lay_window<G: Ground>(ground: &G, first: usize, end: usize, rows: &mut Vec<Option<Stencil>>)
+    requires count { vec_len rows.old ≡ size (G.plan ground.now) }
+    requires window { first ≤ end }
+    requires inside { end ≤ size (G.plan ground.now) }
+    ensures row { (k : ℕ) → first ≤ k → k < end → RowOf (G.plan ground.now) k (slice_index_or rows.new.items k None) }
+    ensures near { (k : ℕ) → first ≤ k → k < end → ArmsNear (G.plan ground.now) k (slice_index_or rows.new.items k None) }
+    ensures before { (k : ℕ) → k < first → slice_index_or rows.new.items k None ≡ slice_index_or rows.old.items k None }
+    ensures after { (k : ℕ) → end ≤ k → slice_index_or rows.new.items k None ≡ slice_index_or rows.old.items k None }
+    ensures count { vec_len rows.new ≡ vec_len rows.old }
+    ensures capacity { vec_capacity rows.new ≡ vec_capacity rows.old }
+{
+    let shape = ground.shape();
+    for index in first..end {
+        rows[index] = row(ground, shape, index);
+    }
+}
+
+// Lays the equations out anew where the plan has changed at one cell alone: a row tells of no
+// cell further off than the one below its own.
+pub(crate) fn lay_around<G: Ground>(
+    ground: &G,
+    cell: usize,
+    records: &mut Vec<Record>,
+    rows: &mut Vec<Option<Stencil>>,
+)
+    requires { (p : Plan) × LaidOf p records.old.items rows.old.items × ChangedAt cell p (G.plan ground.now) }
+    ensures whole { LaidOf (G.plan ground.now) records.new.items rows.new.items }
+    ensures kept { vec_capacity records.new ≡ vec_capacity records.old }
+    ensures laid { vec_capacity rows.new ≡ vec_capacity rows.old }
+{
+    let shape = ground.shape();
+    if cell >= shape.cells() {
+        return;
+    }
+    records[cell] = ground.record(cell);
+    let first = cell.saturating_sub(shape.wide);
+    let end = shape.cells().min(cell + shape.wide + 1);
+    let records = records.as_slice();
+    lay_window(&Kept { shape, records }, first, end, rows);
 }

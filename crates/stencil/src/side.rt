@@ -1,7 +1,9 @@
 ghost use Rattle.std.specs.Prelude.{◌≡◌, ◌+◌, ◌-◌, ◌%◌, ◌<◌, ◌≤◌, if◌then◌else◌, Some, None, nat_le, nat_lt};
+ghost use Rattle.stencil.specs.Laying.{Near, NearIf};
 ghost use Rattle.stencil.specs.Stencils.{SideOf, toward, OnPlan};
 
-use crate::types::{Arm, Side};
+use crate::types::Arm;
+pub use crate::types::Side;
 use ground::ground::Ground;
 use number::weighed;
 use section::types::{Record, Shape};
@@ -55,7 +57,8 @@ pub(crate) fn look_toward<G: Ground>(
 ) -> Side
     requires on { OnPlan (G.plan ground.now) index }
     requires light { weight ≤ 1000 }
-    ensures { SideOf (G.plan ground.now) index (toward (G.plan ground.now) to weight) result }
+    ensures side { SideOf (G.plan ground.now) index (toward (G.plan ground.now) to weight) result }
+    ensures near { NearIf (G.plan ground.now) index to → Near (G.plan ground.now) index result.arm.cell }
 {
     let back = Arm {
         weight: 0,
