@@ -1,2 +1,3 @@
 pub mod Checks
 mod Pins
+mod Repinning

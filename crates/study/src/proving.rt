@@ -17,7 +17,7 @@ use crate::tighten::tighten_laid;
 use crate::types::{Certificate, State, Study};
 use certificate::certify::certify;
 use certificate::count::count_open;
-use ground::ground::{Ground, free_cells};
+use ground::ground::Ground;
 use refusal::types::Refusal;
 use section::limits::within;
 use section::rows::{BracketRow, Majorant, Temperature};
@@ -141,7 +141,8 @@ impl<G: Ground> Study<G> {
         ensures study { Repinned self.old self.new (pin_leaves (G.plan self.old.layer.below) (pinning_of self.old) cell temperature) }
     {
         let state = meets(self.state, Event::Pin)?;
-        self.layer.update(|layer| layer.pin(cell, temperature))?;
+        self.layer
+            .update_at(cell, |layer| layer.pin(cell, temperature))?;
         self.begin(state);
         Ok(())
     }
@@ -152,7 +153,7 @@ impl<G: Ground> Study<G> {
         ensures study { Repinned self.old self.new (release_leaves (G.plan self.old.layer.below) (pinning_of self.old) cell) }
     {
         let state = meets(self.state, Event::Release)?;
-        self.layer.update(|layer| layer.release(cell))?;
+        self.layer.update_at(cell, |layer| layer.release(cell))?;
         self.begin(state);
         Ok(())
     }
@@ -162,7 +163,7 @@ impl<G: Ground> Study<G> {
         ensures { Becomes self.old self.new (standing state (free_count (equations_of G.plan self.old))) }
     {
         self.state = state;
-        self.open = free_cells(&self.layer);
+        self.open = self.layer.free_cells();
     }
 
     // Whether brackets are proved and no cell is open.

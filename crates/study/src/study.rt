@@ -8,7 +8,7 @@ ghost use Rattle.study.specs.Studies.{equations_of, Fresh, Ready};
 use crate::raise::raise_laid;
 use crate::relax::relax_laid;
 use crate::types::{State, Study};
-use ground::ground::{Ground, free_cells};
+use ground::ground::Ground;
 use layers::layer::PinLayer;
 use refusal::types::Refusal;
 use section::limits::within;
@@ -33,7 +33,7 @@ impl<G: Ground> Study<G> {
                 });
             }
         };
-        let open = free_cells(&layer);
+        let open = layer.free_cells();
         Ok(Study {
             layer,
             tolerance,
