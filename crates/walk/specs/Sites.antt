@@ -1,8 +1,8 @@
 -- When a site shows a cell of a plan with the entries of a grid.
-use Rattle.std.specs.Prelude.{◌≡◌, ℕ, List, length, slice_index_or}
+use Rattle.std.specs.Prelude.{◌≡◌, ℕ, List, length, Option, slice_index_or}
 use Rattle.section.specs.Plan.{Plan, size, Free}
 use Rattle.stencil.specs.Sides.{OnSides, map_sides}
-use Rattle.stencil.specs.Stencils.{Equation}
+use Rattle.stencil.specs.Stencils.{Equation, Stands}
 use Rattle.stencil.specs.declared.types.Stencil.{Stencil}
 use Rattle.walk.specs.declared.types.Site.{Site}
 use Rattle.walk.specs.declared.types.Turn.{Turn}
@@ -32,3 +32,9 @@ Keeps fair Stop = Unit {0}
 pub record Walkable {E : Type 0} (fair : E → Type 0) (p : Plan) (xs : List E) : Type 0 where
   pub count : length xs ≡ size p
   pub entries : (i : ℕ) → Free p i → (d : E) → fair (slice_index_or xs i d)
+
+-- so it is over the plan that some rows stand for
+pub record WalkableOver {E : Type 0} (fair : E → Type 0) (rows : List (Option Stencil)) (xs : List E) : Type 0 where
+  pub plan : Plan
+  pub stands : Stands plan rows
+  pub walkable : Walkable fair plan xs

@@ -1,13 +1,12 @@
 ghost use Rattle.std.specs.Prelude.{◌≡◌, ◌<◌, length};
-ghost use Rattle.section.specs.Plan.{is_free_at, size};
+ghost use Rattle.section.specs.Plan.{Plan, is_free_at, size};
 ghost use Rattle.stencil.specs.Sides.{OnSides};
-ghost use Rattle.walk.specs.Sites.{Shows, Walkable};
+ghost use Rattle.stencil.specs.Stencils.{Stands};
+ghost use Rattle.walk.specs.Sites.{Shows, WalkableOver};
 ghost use Rattle.walk.specs.Walks.{walk as walk_of, walked_as};
 
 use crate::rule::Rule;
 use crate::types::{Halted, Site, Turn};
-use ground::ground::Ground;
-use stencil::laid::LaidOut;
 use stencil::types::Stencil;
 
 // The site of a cell. For the crates above.
@@ -24,17 +23,17 @@ pub fn look<E: Copy>(stencil: Stencil, grid: &[E], index: usize) -> Site<E>
 }
 
 // Treats each free cell in index order, with the newest entries. Answers the cells changed.
-pub(crate) fn once<E: Copy, R: Rule<E>, G: Ground>(
+pub(crate) fn once<E: Copy, R: Rule<E>>(
     rule: &R,
-    laid: &LaidOut<G>,
+    rows: &[Option<Stencil>],
     grid: &mut [E],
 ) -> Result<usize, Halted>
-    requires { Walkable (R.fair rule.now) (G.plan laid.now) grid.old }
-    ensures value { walked_as grid.new result ≡ walk_of (R.step rule.now (G.plan laid.now)) (is_free_at (G.plan laid.now)) (size (G.plan laid.now)) grid.old }
-    ensures kept { Walkable (R.fair rule.now) (G.plan laid.now) grid.new }
+    requires { WalkableOver (R.fair rule.now) rows.now grid.old }
+    ensures value { (p : Plan) → Stands p rows.now → walked_as grid.new result ≡ walk_of (R.step rule.now p) (is_free_at p) (size p) grid.old }
+    ensures kept { WalkableOver (R.fair rule.now) rows.now grid.new }
 {
     let mut changed = 0;
-    for (index, row) in laid.rows().iter().enumerate() {
+    for (index, row) in rows.iter().enumerate() {
         if let Some(stencil) = row {
             match rule.turn(look(*stencil, grid, index)) {
                 Turn::Stay => {}
