@@ -1,3 +1,4 @@
+mod Rows
 mod Residuals
 mod Margins
 mod Spreads

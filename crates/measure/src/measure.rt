@@ -1,12 +1,13 @@
 ghost use Rattle.std.specs.Prelude.{◌≡◌, ◌≤◌, nat_lt, unsigned_abs};
-ghost use Rattle.walk.specs.Sites.{Walkable};
+ghost use Rattle.section.specs.Plan.{Plan};
+ghost use Rattle.stencil.specs.Stencils.{Stands};
+ghost use Rattle.walk.specs.Sites.{WalkableOver};
 ghost use Rattle.steps.specs.Steps.{FairTemperature, FairMajorant};
 ghost use Rattle.measure.specs.Measures.{rest as rest_of, margin as margin_of, spread_of, around};
 
 use crate::grids::{least_margin, rest};
-use ground::ground::Ground;
 use section::rows::{BracketRow, Majorant, Temperature};
-use stencil::laid::LaidOut;
+use stencil::types::Stencil;
 use steps::height::Height;
 
 // The rest of proposed temperatures, and the margin of a majorant with no negative one.
@@ -19,22 +20,22 @@ pub struct Measure {
 }
 
 // Measures whole grids; with no free cell both numbers are 0. For the crates above.
-pub fn measured<G: Ground>(
-    laid: &LaidOut<G>,
+pub fn measured(
+    rows: &[Option<Stencil>],
     temperatures: &[Temperature],
     majorant: &[Majorant],
 ) -> Measure
-    requires mild { Walkable FairTemperature (G.plan laid.now) temperatures.now }
-    requires fair { Walkable FairMajorant (G.plan laid.now) majorant.now }
-    ensures rest { result.rest ≡ rest_of (G.plan laid.now) temperatures.now }
-    ensures margin { result.margin ≡ unsigned_abs (margin_of (G.plan laid.now) majorant.now) }
+    requires mild { WalkableOver FairTemperature rows.now temperatures.now }
+    requires fair { WalkableOver FairMajorant rows.now majorant.now }
+    ensures rest { (p : Plan) → Stands p rows.now → result.rest ≡ rest_of p temperatures.now }
+    ensures margin { (p : Plan) → Stands p rows.now → result.margin ≡ unsigned_abs (margin_of p majorant.now) }
 {
-    let margin = match least_margin(laid, majorant) {
+    let margin = match least_margin(rows, majorant) {
         None => 0,
         Some(margin) => margin.unsigned_abs(),
     };
     Measure {
-        rest: rest(laid, temperatures),
+        rest: rest(rows, temperatures),
         margin,
     }
 }
