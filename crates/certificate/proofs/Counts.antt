@@ -1,15 +1,18 @@
 -- Counting the open cells by their rows.
-use Rattle.std.proofs.Common.{◌≡◌, ℕ, ◌+◌, ◌^◌, ◌<◌, Bool, true, false, cond, List, length, get_or, ℤ, ◌-ℤ◌, nat_abs, ap, ◌∙◌, add-one, arith}
+use Rattle.std.proofs.Common.{◌≡◌, ℕ, ◌+◌, ◌^◌, ◌<◌, Bool, cond, List, length, get_or, ℤ, ◌-ℤ◌, nat_abs, Some, None, Option, sym, ap, ◌∙◌, add-one, arith}
 use lib.Signed.{lt_z}
 use Rattle.std.proofs.lemmas.List.{get_or_default}
 use Rattle.std.proofs.lemmas.Int.{ints}
 use Rattle.number.proofs.Words.{word, back}
-use Rattle.section.specs.Plan.{Plan, count_to, is_free_at}
+use Rattle.section.specs.Plan.{Plan, count_to}
 use Rattle.section.specs.Reading.{plain, row_bracket, brackets, widest}
 use Rattle.section.specs.declared.rows.BracketRow.{BracketRow}
 use Rattle.section.specs.declared.types.Bracket.{Bracket}
 use Rattle.section.specs.declared.types.Tolerance.{Tolerance}
-use Rattle.certificate.specs.Counting.{is_open, width}
+use Rattle.stencil.specs.Stencils.{Stands}
+use Rattle.stencil.specs.declared.types.Stencil.{Stencil}
+use Rattle.walk.proofs.Walking.{free_true, row-free, row-none}
+use Rattle.certificate.specs.Counting.{is_open, open_count, width}
 
 -- the width of a bracket as code has it
 pub width_back : (b : Bracket) (r : BracketRow) → plain b ≡ r → word (word b.hi -ℤ word b.lo) ≡ width r
@@ -30,12 +33,17 @@ tolerance-back t = back t.width small
     small : nat_abs t.width < 2 ^ 63
     small = omega (arith, ints, t.width_least, t.width_most)
 
--- one cell more, whose row was read
-module _ (p : Plan) (t : ℤ) (bs : List BracketRow) (i n : ℕ) (lt : i < length bs) (so_far : n ≡ count_to (is_open p t bs) i) where
-  pub count_past : is_free_at p i ≡ false → n ≡ count_to (is_open p t bs) (i + 1)
-  count_past e = rw (add-one, e) so_far
+-- one row more
+module _ (p : Plan) (rows : List (Option Stencil)) (t : ℤ) (bs : List BracketRow) (i n : ℕ) (st : Stands p rows) (lt : i < length rows) (so_far : n ≡ count_to (is_open p t bs) i) where
+  pub count_none : get_or rows i None ≡ None → n ≡ count_to (is_open p t bs) (i + 1)
+  count_none e = rw (add-one, row-none p rows i st lt e) so_far
 
-  pub count_here : (b : Bool) (d : BracketRow) → is_free_at p i ≡ true → b ≡ lt_z t (width (row_bracket (get_or bs i d))) → cond b (n + 1) n ≡ count_to (is_open p t bs) (i + 1)
-  count_here b d f e =
-      let wide : b ≡ lt_z t (width (brackets bs i)) = e ∙ ap (λ x. lt_z t (width (row_bracket x))) (get_or_default bs i d widest lt) in
-      rw (add-one i, so_far, f) (ap (λ x. cond x (count_to (is_open p t bs) i + 1) (count_to (is_open p t bs) i)) wide)
+  pub count-some : (s : Stencil) (b : Bool) (d : BracketRow) → length bs ≡ length rows → get_or rows i None ≡ Some s → b ≡ lt_z t (width (row_bracket (get_or bs i d))) → cond b (n + 1) n ≡ count_to (is_open p t bs) (i + 1)
+  count-some s b d len e o =
+      let more = count_to (is_open p t bs) i in
+      let open_is : b ≡ lt_z t (width (brackets bs i)) = o ∙ ap (λ r. lt_z t (width (row_bracket r))) (get_or_default bs i d widest (omega (arith, len))) in
+      ap (λ k. cond b (k + 1) k) so_far ∙ sym (rw (add-one i, free_true p i (row-free p rows i s st lt e).free) (ap (λ x. cond x (more + 1) more) (sym open_is)))
+
+-- the count passes every row
+pub whole-count : (p : Plan) (rows : List (Option Stencil)) (t : ℤ) (bs : List BracketRow) (i n : ℕ) → Stands p rows → length rows ≡ i → n ≡ count_to (is_open p t bs) i → n ≡ open_count p t bs
+whole-count p rows t bs i n st e c = c ∙ ap (count_to (is_open p t bs)) (sym e ∙ st.count)

@@ -1,3 +1,4 @@
+pub mod AtRows
 pub mod Certifying
 pub mod Counting
 pub mod Proposals

@@ -1,61 +1,67 @@
 ghost use Rattle.std.specs.Prelude.{◌≡◌, ◌<◌, ◌&&◌, length, unsigned_abs, MatchResult};
 ghost use Rattle.refusal.specs.Refusals.{check_of, clear, refuse, fault_of};
-ghost use Rattle.section.specs.Plan.{Free, is_free_at, size};
+ghost use Rattle.section.specs.Plan.{Plan, Free, is_free_at};
 ghost use Rattle.section.specs.Reading.{brackets as brackets_of};
+ghost use Rattle.stencil.specs.Stencils.{Stands};
 ghost use Rattle.measure.specs.Measures.{rest, margin, certified};
+ghost use Rattle.certificate.specs.AtRows.{Laid};
 ghost use Rattle.certificate.specs.Certifying.{common, crossed, meeting_check, proposal_check, written};
 
 use crate::basis::Basis;
 use crate::meet::{crosses, settled, shared};
-use crate::propose::{majorant_fair, margins_enough, spreads_near, temperatures_fair};
-use ground::ground::Ground;
+use crate::propose::{has_row, majorant_fair, margins_enough, spreads_near, temperatures_fair};
 use measure::measure::{Measure, measured};
 use refusal::types::Refusal;
 use scan::first_failing;
 use section::rows::{BracketRow, Majorant, Temperature};
-use section::types::Bracket;
+use section::types::{Bracket, Shape};
 use std::marker::Model;
-use stencil::laid::LaidOut;
+use stencil::types::Stencil;
 use steps::height::Height;
 
-// Grids that passed every check of what is proposed for a ground, with what they measure: a caller
-// sees the ground and the grids.
+// Grids that passed every check of what is proposed for a plan, with what they measure: a caller
+// sees the plan's rows and the grids.
 #[derive(Drop)]
-pub(crate) struct Proposal<'a, G: Ground> {
-    laid: &'a LaidOut<G>,
+pub(crate) struct Proposal<'a> {
+    shape: Shape,
+    rows: &'a [Option<Stencil>],
     temperatures: &'a [Temperature],
     majorant: &'a [Majorant],
     measure: Measure,
 }
 
-impl<'a, G: Ground> Model for Proposal<'a, G> {
-    ghost use Rattle.certificate.specs.Proposals.{Proposed, Certifiable};
+impl<'a> Model for Proposal<'a> {
+    ghost use Rattle.std.specs.Prelude.{List, Option};
+    ghost use Rattle.stencil.specs.declared.types.Stencil.{Stencil as StencilOf};
+    ghost use Rattle.certificate.specs.Proposals.{Proposed, CertifiableOver};
 
-    ghost Value = { Proposed G };
+    ghost Value = { Proposed (List (Option StencilOf)) };
 
-    ghost view = { λ s. record { base = s.laid.now; us = s.temperatures.now; ws = s.majorant.now } };
+    ghost view = { λ s. record { base = s.rows.now; us = s.temperatures.now; ws = s.majorant.now } };
 
-    ghost invariant = { λ s. Certifiable (G.plan s.laid.now) s.temperatures.now s.majorant.now s.measure };
+    ghost invariant = { λ s. CertifiableOver s.shape s.rows.now s.temperatures.now s.majorant.now s.measure };
 }
 
-impl<'a, G: Ground> Proposal<'a, G> {
+impl<'a> Proposal<'a> {
     // Each check goes over the whole grid before the next.
     pub(crate) fn new(
-        laid: &'a LaidOut<G>,
+        shape: Shape,
+        rows: &'a [Option<Stencil>],
         temperatures: &'a [Temperature],
         majorant: &'a [Majorant],
-    ) -> Result<Proposal<'a, G>, Refusal>
-        requires temperatures { length temperatures.now ≡ size (G.plan laid.now) }
-        requires majorant { length majorant.now ≡ size (G.plan laid.now) }
-        ensures { MatchResult result (λ x. (proposal_check (G.plan laid.now) temperatures.now majorant.now ≡ clear) × (x.base ≡ laid.now) × (x.us ≡ temperatures.now) × (x.ws ≡ majorant.now)) (λ e. proposal_check (G.plan laid.now) temperatures.now majorant.now ≡ refuse (fault_of e)) }
+    ) -> Result<Proposal<'a>, Refusal>
+        requires temperatures { Laid shape rows.now (length temperatures.now) }
+        requires majorant { Laid shape rows.now (length majorant.now) }
+        ensures { MatchResult result (λ x. ((p : Plan) → Stands p rows.now → proposal_check p temperatures.now majorant.now ≡ clear) × (x.base ≡ rows.now) × (x.us ≡ temperatures.now) × (x.ws ≡ majorant.now)) (λ e. ((p : Plan) → Stands p rows.now → proposal_check p temperatures.now majorant.now ≡ refuse (fault_of e))) }
     {
-        temperatures_fair(laid, temperatures)?;
-        majorant_fair(laid, majorant)?;
-        margins_enough(laid, majorant)?;
-        let measure = measured(laid, temperatures, majorant);
-        spreads_near(laid, temperatures, majorant, measure)?;
+        temperatures_fair(shape, rows, temperatures)?;
+        majorant_fair(shape, rows, majorant)?;
+        margins_enough(shape, rows, majorant)?;
+        let measure = measured(rows, temperatures, majorant);
+        spreads_near(shape, rows, temperatures, majorant, measure)?;
         Ok(Proposal {
-            laid,
+            shape,
+            rows,
             temperatures,
             majorant,
             measure,
@@ -64,15 +70,15 @@ impl<'a, G: Ground> Proposal<'a, G> {
 
     // The rest and the margin.
     pub(crate) fn measured(&self) -> (u64, u64)
-        ensures { result ≡ (rest (G.plan self.now.base) self.now.us, unsigned_abs (margin (G.plan self.now.base) self.now.ws)) }
+        ensures { (p : Plan) → Stands p self.now.base → result ≡ (rest p self.now.us, unsigned_abs (margin p self.now.ws)) }
     {
         (self.measure.rest, self.measure.margin)
     }
 
     // The certified bracket of a free cell.
     fn bracket_at(&self, cell: usize) -> BracketRow
-        requires { Free (G.plan self.now.base) cell }
-        ensures { result ≡ certified (G.plan self.now.base) self.now.us self.now.ws cell }
+        requires { (p : Plan) → Stands p self.now.base → Free p cell }
+        ensures { (p : Plan) → Stands p self.now.base → result ≡ certified p self.now.us self.now.ws cell }
     {
         self.measure.certified(
             self.temperatures[cell].value,
@@ -82,19 +88,20 @@ impl<'a, G: Ground> Proposal<'a, G> {
 
     // The first free cell whose certified bracket has nothing in common with a proved one is refused.
     pub(crate) fn meets(&self, basis: Basis, brackets: &[BracketRow]) -> Result<(), Refusal>
-        requires { length brackets.now ≡ size (G.plan self.now.base) }
-        ensures { check_of result ≡ meeting_check (G.plan self.now.base) basis self.now.us self.now.ws brackets.now }
+        requires { length brackets.now ≡ length self.now.base }
+        ensures { (p : Plan) → Stands p self.now.base → check_of result ≡ meeting_check p basis self.now.us self.now.ws brackets.now }
     {
         let is_apart = |cell: usize|
-            requires { cell < length brackets.now }
-            ensures { result ≡ (is_free_at (G.plan self.entry.now.base) cell && crossed (common (certified (G.plan self.entry.now.base) self.entry.now.us self.entry.now.ws cell) (brackets_of brackets.entry.now cell))) }
+            requires row { cell < length self.now.base }
+            requires bracket { cell < length brackets.now }
+            ensures { (p : Plan) → Stands p self.entry.now.base → result ≡ (is_free_at p cell && crossed (common (certified p self.entry.now.us self.entry.now.ws cell) (brackets_of brackets.entry.now cell))) }
         {
-            self.laid.is_free(cell)
+            has_row(self.rows, cell)
                 && crosses(shared(self.bracket_at(cell), Bracket::from(brackets[cell])))
         };
         match basis {
             Basis::Alone => Ok(()),
-            Basis::Joined => match first_failing(self.laid.shape(), is_apart) {
+            Basis::Joined => match first_failing(self.shape, is_apart) {
                 Some(cell) => Err(Refusal::Crossed(cell)),
                 None => Ok(()),
             },
@@ -103,11 +110,11 @@ impl<'a, G: Ground> Proposal<'a, G> {
 
     // Gives every free cell the bracket that the certificate leaves it.
     pub(crate) fn write(&self, basis: Basis, grid: &mut [BracketRow])
-        requires { length grid.old ≡ size (G.plan self.now.base) }
-        ensures { grid.new ≡ written (G.plan self.now.base) basis self.now.us self.now.ws grid.old }
+        requires { length grid.old ≡ length self.now.base }
+        ensures { (p : Plan) → Stands p self.now.base → grid.new ≡ written p basis self.now.us self.now.ws grid.old }
     {
         for (cell, row) in grid.iter_mut().enumerate() {
-            if self.laid.is_free(cell) {
+            if has_row(self.rows, cell) {
                 *row = settled(basis, self.bracket_at(cell), *row);
             }
         }

@@ -1,24 +1,26 @@
-use Rattle.std.proofs.Common.{true, false, sym, ◌∙◌, arith}
-use Rattle.section.specs.Plan.{Plan}
-use Rattle.certificate.proofs.Counts.{count_past, count_here}
+use Rattle.std.proofs.Common.{◌≡◌, true, false, length, None, sym, ◌∙◌, arith}
+use Rattle.walk.proofs.Walking.{read}
+use Rattle.certificate.proofs.Counts.{count_none, count-some, whole-count}
 use Rattle.certificate.proofs.count.count_open.Goals as goal
-use Rattle.certificate.proofs.count.count_open.Goals.{then-is_free+then-is_open, else-is_free, else-is_free-via-then-is_free+else-is_open, else-is_free-via-else-is_free}
+use Rattle.certificate.proofs.count.count_open.Goals.{in-None, in-Some+then-is_open, in-Some+else-is_open}
 
-pub loop-cell-preserved : goal.loop-cell-preserved
-loop-cell-preserved g c =
-    let p : Plan = g.G.Ground.plan c.args.laid.now in
-    let bs = c.args.grid.now in
+pub loop-index-preserved : goal.loop-index-preserved
+loop-index-preserved c =
+    let rows = c.args.rows.now in
     let t = c.args.tolerance.width in
-    elim c.if-is_free.branch [
-      | then-is_free+then-is_open w ↦ rw w.open-is (record {
-        few = omega (arith, c.loop-cell.invariant.few);
-        so_far = count_here p t bs c.loop-cell.cell c.loop-cell.«open» c.loop-cell-test.true c.loop-cell.invariant.so_far true _ (sym c.is_free.ensures ∙ w.if-is_free.true) (sym w.if-is_open.true ∙ w.is_open.ensures);
-      })
-      | else-is_free w ↦ rw w.open-is (record {
-        few = omega (arith, c.loop-cell.invariant.few);
-        so_far = elim w.else-is_free.branch [
-          | else-is_free-via-then-is_free+else-is_open v ↦ count_here p t bs c.loop-cell.cell c.loop-cell.«open» c.loop-cell-test.true c.loop-cell.invariant.so_far false _ (sym c.is_free.ensures ∙ v.if-is_free.true) (sym v.if-is_open.false ∙ v.is_open.ensures)
-          | else-is_free-via-else-is_free v ↦ count_past p t bs c.loop-cell.cell c.loop-cell.«open» c.loop-cell-test.true c.loop-cell.invariant.so_far (sym c.is_free.ensures ∙ v.if-is_free.false)
-        ];
-      })
+    let grid = c.args.grid.now in
+    let i = c.loop-index.index in
+    let n = c.loop-index.«open» in
+    let few = c.loop-index.invariant.few in
+    let lt = c.loop-index-test.true in
+    let row = read rows i c.index-rows-index.result None lt c.index-rows-index.is in
+    elim c.match-row.branch [
+      | in-None w ↦ rw w.open-is (record { few = omega (arith, few); so_far = λ p st. count_none p rows t grid i n st lt (c.loop-index.invariant.so_far p st) (sym row ∙ w.in-None.is) })
+      | in-Some+then-is_open w ↦ rw w.open-is (record { few = omega (arith, few); so_far = λ p st. count-some p rows t grid i n st lt (c.loop-index.invariant.so_far p st) w.in-Some.field-0 true _ c.requires (sym row ∙ w.in-Some.is) w.if-is_open.ensures })
+      | in-Some+else-is_open w ↦ rw w.open-is (record { few = omega (arith, few); so_far = λ p st. count-some p rows t grid i n st lt (c.loop-index.invariant.so_far p st) w.in-Some.field-0 false _ c.requires (sym row ∙ w.in-Some.is) w.if-is_open.ensures })
     ]
+
+pub returns : goal.returns
+returns c = λ p st.
+    let end : length c.args.rows.now ≡ c.loop-index.index = omega (arith, c.loop-index-test.false, c.loop-index.auto.index-end) in
+    whole-count p c.args.rows.now c.args.tolerance.width c.args.grid.now c.loop-index.index c.loop-index.«open» st end (c.loop-index.invariant.so_far p st)

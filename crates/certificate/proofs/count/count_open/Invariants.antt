@@ -1,10 +1,11 @@
 use Rattle.std.proofs.Common.{◌≡◌, ◌≤◌}
-use Rattle.section.specs.Plan.{count_to}
+use Rattle.section.specs.Plan.{Plan, count_to}
+use Rattle.stencil.specs.Stencils.{Stands}
 use Rattle.certificate.specs.Counting.{is_open}
 use Rattle.certificate.proofs.count.count_open.Given as goal
 
-abbrev pub invariant-loop-cell : goal.invariant-loop-cell
-invariant-loop-cell g l = record {
-  few : l.«open» ≤ l.cell;
-  so_far : l.«open» ≡ count_to (is_open (g.G.Ground.plan l.laid) l.tolerance.width l.grid) l.cell;
+abbrev pub invariant-loop-index : goal.invariant-loop-index
+invariant-loop-index l = record {
+  few : l.«open» ≤ l.index;
+  so_far : (p : Plan) → Stands p l.rows → l.«open» ≡ count_to (is_open p l.tolerance.width l.grid) l.index;
 }
