@@ -1,5 +1,8 @@
 -- What an event needs and leaves proved.
-use Rattle.refusal.specs.Refusals.{Check, clear}
+use Rattle.std.specs.Prelude.{Ok, Err, Result}
+use Rattle.refusal.specs.Refusals.{Check, clear, Answer, accepted, refused, fault_of}
+use Rattle.refusal.specs.declared.types.Refusal.TheVariants.{Walk}
+use Rattle.refusal.specs.declared.types.WalkFault.{WalkFault}
 use Rattle.study.specs.Calls.{proved_check}
 use Rattle.study.specs.declared.event.Event.{Event}
 use Rattle.study.specs.declared.event.Event.TheVariants.{Certificate, Tightening, Pin, Release}
@@ -17,3 +20,8 @@ after_event Certificate = Proved
 after_event Tightening = Proved
 after_event Pin = Unproved
 after_event Release = Unproved
+
+-- what a walk's result says as an answer
+abbrev pub walk_answer_of : {X : Type 0} → Result X WalkFault → Answer X
+walk_answer_of (Ok x) = accepted x
+walk_answer_of (Err e) = refused (fault_of (Walk e))

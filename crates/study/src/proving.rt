@@ -9,6 +9,7 @@ ghost use Rattle.certificate.specs.Certifying.{certificate_check, written};
 ghost use Rattle.certificate.specs.Counting.{open_count};
 ghost use Rattle.section.specs.Reading.{plain, brackets as brackets_of};
 ghost use Rattle.study.specs.Calls.{standing, length_check, basis_of, certificate_of, certify_answer, certify_grid, certify_standing, tighten_answer, tighten_grid, tighten_standing, ask_check, pin_leaves, release_leaves, is_finished};
+ghost use Rattle.study.specs.Events.{walk_answer_of};
 ghost use Rattle.study.specs.Pins.{pinning_check, releasing_check};
 ghost use Rattle.study.specs.Studies.{equations_of, standing_of, pinning_of, Repinned, Becomes};
 
@@ -18,7 +19,7 @@ use crate::types::{Certificate, State, Study};
 use certificate::certify::certify;
 use certificate::count::count_open;
 use ground::ground::Ground;
-use refusal::types::Refusal;
+use refusal::types::{Refusal, WalkFault};
 use section::limits::within;
 use section::rows::{BracketRow, Majorant, Temperature};
 use section::types::Bracket;
@@ -50,14 +51,15 @@ impl<G: Ground> Study<G> {
         ensures study { Becomes self.old self.new (unless_refused (certificate_check (equations_of G.plan self.old) (basis_of self.old.state) temperatures.now majorant.now brackets.old) (standing_of self.old) (standing state (open_count (equations_of G.plan self.old) self.old.tolerance.width (written (equations_of G.plan self.old) (basis_of self.old.state) temperatures.now majorant.now brackets.old)))) }
     {
         let (rest, margin) = certify(
-            &self.layer,
+            self.layer.shape(),
+            self.layer.rows(),
             temperatures,
             majorant,
             brackets,
             self.state.basis(),
         )?;
         self.state = state;
-        self.open = count_open(&self.layer, brackets, self.tolerance);
+        self.open = count_open(self.layer.rows(), brackets, self.tolerance);
         Ok(Certificate {
             rest,
             margin,
@@ -89,14 +91,14 @@ impl<G: Ground> Study<G> {
         &mut self,
         brackets: &mut [BracketRow],
         most: usize,
-    ) -> Result<(usize, usize), Refusal>
+    ) -> Result<(usize, usize), WalkFault>
         requires { length brackets.old ≡ size (equations_of G.plan self.old) }
-        ensures answer { answer_of result ≡ answer (at_first (tighten_run (equations_of G.plan self.old) most brackets.old).stopped (fault Walk 9)) (counts_of (tighten_run (equations_of G.plan self.old) most brackets.old)) }
+        ensures answer { walk_answer_of result ≡ answer (at_first (tighten_run (equations_of G.plan self.old) most brackets.old).stopped (fault Walk 9)) (counts_of (tighten_run (equations_of G.plan self.old) most brackets.old)) }
         ensures grid { brackets.new ≡ (tighten_run (equations_of G.plan self.old) most brackets.old).grid }
         ensures study { Becomes self.old self.new (standing self.old.state (open_count (equations_of G.plan self.old) self.old.tolerance.width (tighten_run (equations_of G.plan self.old) most brackets.old).grid)) }
     {
         let ran = tighten_laid(&self.layer, brackets, most);
-        self.open = count_open(&self.layer, brackets, self.tolerance);
+        self.open = count_open(self.layer.rows(), brackets, self.tolerance);
         ran
     }
 
@@ -114,7 +116,8 @@ impl<G: Ground> Study<G> {
         self.sized(brackets.len())?;
         meets(self.state, Event::Tightening)?;
         within(1, walks, 1, 1_000_000)?;
-        self.narrow(brackets, walks as usize)
+        let counts = self.narrow(brackets, walks as usize)?;
+        Ok(counts)
     }
 
     // The bracket of a free cell, while brackets are proved.

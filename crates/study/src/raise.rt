@@ -23,5 +23,5 @@ pub(crate) fn raise_laid<G: Ground>(
     ensures grid { grid.new ≡ (raise_run (G.plan laid.now) (unsigned_abs margin.margin) most grid.old).grid }
 {
     clear(laid, grid);
-    raised_by(run(&margin, laid, grid, most))
+    raised_by(run(&margin, laid.rows(), grid, most))
 }

@@ -14,7 +14,6 @@ use steps::told::counts_of;
 use walk::run::run;
 
 // Relaxes, unless a free cell's temperature is outside its limits.
-#[tactic(auto, using(certificate::proofs::Clears::mild_walkable))]
 pub(crate) fn relax_laid<G: Ground>(
     laid: &LaidOut<G>,
     grid: &mut [Temperature],
@@ -25,6 +24,7 @@ pub(crate) fn relax_laid<G: Ground>(
     ensures answer { answer_of result ≡ answer (temperature_check (G.plan laid.now) grid.old) (counts_of (relax_run (G.plan laid.now) factor.factor most grid.old)) }
     ensures grid { grid.new ≡ unless_refused (temperature_check (G.plan laid.now) grid.old) grid.old (relax_run (G.plan laid.now) factor.factor most grid.old).grid }
 {
-    temperatures_fair(laid, grid)?;
-    Ok(counts_of(run(&factor, laid, grid, most)))
+    let rows = laid.rows();
+    temperatures_fair(laid.shape(), rows, grid)?;
+    Ok(counts_of(run(&factor, rows, grid, most)))
 }

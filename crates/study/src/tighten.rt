@@ -1,12 +1,13 @@
 ghost use Rattle.std.specs.Prelude.{◌≡◌, length};
 ghost use Rattle.section.specs.Plan.{size};
-ghost use Rattle.refusal.specs.Refusals.{answer_of, at_first, fault, answer};
+ghost use Rattle.refusal.specs.Refusals.{at_first, fault, answer};
 ghost use Rattle.refusal.specs.declared.types.Level.TheVariants.{Walk};
 ghost use Rattle.steps.specs.Steps.{counts_of};
 ghost use Rattle.steps.specs.Tightening.{tighten_run};
+ghost use Rattle.study.specs.Events.{walk_answer_of};
 
 use ground::ground::Ground;
-use refusal::types::{Refusal, WalkFault};
+use refusal::types::WalkFault;
 use section::rows::BracketRow;
 use stencil::laid::LaidOut;
 use steps::rules::Tighten;
@@ -17,12 +18,10 @@ pub(crate) fn tighten_laid<G: Ground>(
     laid: &LaidOut<G>,
     grid: &mut [BracketRow],
     most: usize,
-) -> Result<(usize, usize), Refusal>
+) -> Result<(usize, usize), WalkFault>
     requires { length grid.old ≡ size (G.plan laid.now) }
-    ensures answer { answer_of result ≡ answer (at_first (tighten_run (G.plan laid.now) most grid.old).stopped (fault Walk 9)) (counts_of (tighten_run (G.plan laid.now) most grid.old)) }
+    ensures answer { walk_answer_of result ≡ answer (at_first (tighten_run (G.plan laid.now) most grid.old).stopped (fault Walk 9)) (counts_of (tighten_run (G.plan laid.now) most grid.old)) }
     ensures grid { grid.new ≡ (tighten_run (G.plan laid.now) most grid.old).grid }
 {
-    let ran = run(&Tighten, laid, grid, most);
-    let counts = ran.map_err(|stopped| WalkFault::Crossed(stopped.cell))?;
-    Ok(counts)
+    run(&Tighten, laid.rows(), grid, most).map_err(|stopped| WalkFault::Crossed(stopped.cell))
 }
