@@ -1,1 +1,2 @@
+pub mod AtRows
 pub mod Measures

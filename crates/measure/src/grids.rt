@@ -1,8 +1,9 @@
-ghost use Rattle.std.specs.Prelude.{◌≡◌, ◌<◌, ◌≤◌, length, ℤ, Some, None, slice_index_or, unsigned_abs};
+ghost use Rattle.std.specs.Prelude.{◌≡◌, ◌≤◌, ℤ, Some, unsigned_abs};
 ghost use Rattle.section.specs.Plan.{Plan, size};
 ghost use Rattle.stencil.specs.Stencils.{Stands};
 ghost use Rattle.walk.specs.Sites.{WalkableOver};
 ghost use Rattle.steps.specs.Steps.{FairTemperature, FairMajorant};
+ghost use Rattle.measure.specs.AtRows.{EquationOver};
 ghost use Rattle.measure.specs.Measures.{residual as residual_of, rest as rest_of, cell_margin as margin_of, lesser as lesser_of, margin_to};
 
 use crate::at::{cell_margin, residual};
@@ -13,8 +14,7 @@ use walk::walk::look;
 // The margin of a free cell. For the crates above.
 pub fn margin_at(rows: &[Option<Stencil>], grid: &[Majorant], stencil: Stencil, cell: usize) -> i64
     requires fair { WalkableOver FairMajorant rows.now grid.now }
-    requires on { cell < length rows.now }
-    requires here { slice_index_or rows.now cell None ≡ Some stencil }
+    requires here { EquationOver rows.now cell stencil }
     ensures value { (p : Plan) → Stands p rows.now → result ≡ margin_of p grid.now cell }
     ensures most { unsigned_abs result ≤ 2500000000 }
 {
@@ -24,8 +24,7 @@ pub fn margin_at(rows: &[Option<Stencil>], grid: &[Majorant], stencil: Stencil, 
 // The absolute residual of a free cell.
 fn residual_at(rows: &[Option<Stencil>], grid: &[Temperature], stencil: Stencil, cell: usize) -> u64
     requires fair { WalkableOver FairTemperature rows.now grid.now }
-    requires on { cell < length rows.now }
-    requires here { slice_index_or rows.now cell None ≡ Some stencil }
+    requires here { EquationOver rows.now cell stencil }
     ensures value { (p : Plan) → Stands p rows.now → result ≡ unsigned_abs (residual_of p grid.now cell) }
     ensures most { result ≤ 18000000000000 }
 {

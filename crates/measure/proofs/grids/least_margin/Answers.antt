@@ -1,8 +1,16 @@
 use Rattle.std.proofs.Common.{Some, None}
 use Rattle.walk.proofs.Walking.{row_is}
 use Rattle.measure.proofs.Margins.{kept_is, kept_small, margin_past, margin-here}
+use Rattle.measure.proofs.Rows.{row_over}
 use Rattle.measure.proofs.grids.least_margin.Goals as goal
 use Rattle.measure.proofs.grids.least_margin.Goals.{in-Some, in_default}
+
+pub margin_at-requires-clause-here : goal.margin_at-requires-clause-here
+margin_at-requires-clause-here c =
+    let rows = c.args.rows.now in
+    let i = c.loop-cell.cell in
+    let lt = c.loop-cell-test.true in
+    row_over rows c.args.grid.now i c.in-Some.stencil c.requires lt (row_is rows i c.index-rows-cell.result (Some c.in-Some.stencil) lt c.index-rows-cell.is c.in-Some.is)
 
 pub loop-cell-preserved : goal.loop-cell-preserved
 loop-cell-preserved c =
