@@ -29,7 +29,10 @@ fn main(rt: HostRuntime) -> io::Result<()> {
     for (number, text) in (1..u64::MAX).zip(input.split(heap, b'\n')) {
         let text = text?;
         if let Some(line) = Line::read(heap, number, text.as_slice())? {
-            answer(&mut session, &line, &mut output)?;
+            // Written at once, and not at all where memory ends in the line.
+            let mut gained = Vec::new(heap);
+            answer(&mut session, &line, &mut gained)?;
+            output.write_all(&gained)?;
         }
     }
     output.flush()
