@@ -4,7 +4,6 @@ use anyhow::Result;
 use ground::listed::Listed;
 use ground::ring::Ring;
 use ground::slab::Slab;
-use refusal::types::Refusal;
 use section::rows::{FreeRow, Row};
 use section::types::Shape;
 use std::alloc::{AllocError, Global};
@@ -20,7 +19,8 @@ enum First {
 // What a slab or a ring is made of.
 #[derive(Clone, Copy)]
 struct Rim {
-    shape: Shape,
+    wide: i64,
+    high: i64,
     top: i64,
     bottom: i64,
     first: First,
@@ -41,64 +41,68 @@ fn free(weights: [i64; 4], loss: i64, heat: i64) -> Row {
 }
 
 impl Rim {
-    fn inside(self, column: u8) -> Row {
+    fn inside(self, column: i64) -> Row {
         match self.first {
             First::Side(_) => free([1, 1, 1, 1], 0, self.heat),
             First::Axis => {
-                let west = i64::from(column) * 2;
-                let part = west + 1;
+                let west = column.wrapping_mul(2);
+                let part = west.wrapping_add(1);
                 let heat = self.heat.wrapping_mul(part);
-                free([part, west, west + 2, part], 0, heat)
+                free([part, west, west.wrapping_add(2), part], 0, heat)
             }
         }
     }
 
-    fn row(self, cell: usize) -> Row {
-        let (row, column) = (cell / self.shape.wide, cell % self.shape.wide);
+    fn row(self, row: i64, column: i64) -> Row {
         if row == 0 {
             return Row::Held(self.top);
         }
-        if row == self.shape.high - 1 {
+        if row.wrapping_add(1) == self.high {
             return Row::Held(self.bottom);
         }
         match self.first {
             First::Side(first) if column == 0 => Row::Held(first),
-            _ if column == self.shape.wide - 1 => Row::Held(self.last),
-            _ => self.inside(column as u8),
+            _ if column.wrapping_add(1) == self.wide => Row::Held(self.last),
+            _ => self.inside(column),
         }
     }
 
-    fn floor(self, heap: Global) -> Result<Floor, AllocError> {
-        let cells = 0..self.shape.wide * self.shape.high;
-        let rows = cells.map(|cell| self.row(cell)).collect(heap)?;
-        Ok(Floor::new(heap, self.shape.wide, rows))
+    // Row by row, by the numbers that were drawn.
+    fn floor(self, heap: Global, wide: usize) -> Result<Floor, AllocError> {
+        let rows = (0..self.high)
+            .flat_map(|row| (0..self.wide).map(move |column| self.row(row, column)))
+            .collect(heap)?;
+        Ok(Floor::new(heap, wide, rows))
     }
 
-    fn random(dice: &mut Dice, first: First, wide: i64) -> Result<Rim, Refusal> {
-        Ok(Rim {
-            shape: Shape::new(wide, dice.between(3, 4))?,
+    fn random(dice: &mut Dice, first: First, wide: i64) -> Rim {
+        Rim {
+            wide,
+            high: dice.between(3, 4),
             top: dice.temperature(),
             bottom: dice.temperature(),
             first,
             last: dice.temperature(),
             heat: dice.around(90_000_000),
-        })
+        }
     }
 }
 
 pub(crate) fn slab(heap: Global, dice: &mut Dice) -> Result<(Slab, Floor)> {
     let first = dice.temperature();
     let wide = dice.between(3, 5);
-    let rim = Rim::random(dice, First::Side(first), wide)?;
-    let slab = Slab::new(rim.shape, rim.top, rim.bottom, first, rim.last, rim.heat)?;
-    Ok((slab, rim.floor(heap)?))
+    let rim = Rim::random(dice, First::Side(first), wide);
+    let shape = Shape::new(rim.wide, rim.high)?;
+    let slab = Slab::new(shape, rim.top, rim.bottom, first, rim.last, rim.heat)?;
+    Ok((slab, rim.floor(heap, shape.wide)?))
 }
 
 pub(crate) fn ring(heap: Global, dice: &mut Dice) -> Result<(Ring, Floor)> {
     let wide = dice.between(2, 4);
-    let rim = Rim::random(dice, First::Axis, wide)?;
-    let ring = Ring::new(rim.shape, rim.top, rim.bottom, rim.last, rim.heat)?;
-    Ok((ring, rim.floor(heap)?))
+    let rim = Rim::random(dice, First::Axis, wide);
+    let shape = Shape::new(rim.wide, rim.high)?;
+    let ring = Ring::new(shape, rim.top, rim.bottom, rim.last, rim.heat)?;
+    Ok((ring, rim.floor(heap, shape.wide)?))
 }
 
 fn random_free(dice: &mut Dice, heaviest: i64) -> Row {
