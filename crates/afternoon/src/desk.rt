@@ -1,6 +1,6 @@
+use crate::fault::Result;
 use crate::floor::{CELLS, floor};
 use crate::told::{Thousands, Told};
-use anyhow::Result;
 use ground::listed::Listed;
 use replay::replay::replay;
 use replay::types::{Answer, Call, Event};

@@ -1,3 +1,4 @@
+use crate::fault::Result;
 use ground::listed::Listed;
 use section::rows::{FreeRow, Row};
 use section::types::Shape;
@@ -63,7 +64,7 @@ fn row_of(cell: usize) -> Row {
     }
 }
 
-pub(crate) fn floor(heap: Global) -> anyhow::Result<Listed> {
+pub(crate) fn floor(heap: Global) -> Result<Listed> {
     let shape = Shape::new(SIDE as i64, SIDE as i64)?;
     Ok(Listed::new(shape, (0..CELLS).map(row_of).collect(heap)?))
 }

@@ -3,11 +3,12 @@
 #![tactic(auto)]
 
 mod desk;
+mod fault;
 mod floor;
 mod told;
 
-use anyhow::Result;
 use desk::Desk;
+use fault::Result;
 use floor::cell_at;
 use replay::types::Call;
 

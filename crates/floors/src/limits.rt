@@ -1,5 +1,5 @@
+use crate::fault::Result;
 use crate::told::Outcome;
-use anyhow::Result;
 use ground::ring::Ring;
 use ground::slab::Slab;
 use section::types::{Bracket, FreeRecord, HeldRecord, Shape, Tolerance};

@@ -2,13 +2,14 @@
 // it must print was worked out from the rules, so a line that differs shows a fault.
 #![tactic(auto)]
 
+mod fault;
 mod limits;
 mod plans;
 mod runs;
 mod tables;
 mod told;
 
-use anyhow::Result;
+use fault::Result;
 use limits::{floors, records, shapes};
 use plans::links;
 use runs::{climbing, majorants};

@@ -1,4 +1,4 @@
-use anyhow::Result;
+use crate::fault::Result;
 use ground::ground::Ground;
 use ground::listed::Listed;
 use ground::ring::Ring;

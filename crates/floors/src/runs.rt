@@ -1,6 +1,6 @@
+use crate::fault::Result;
 use crate::plans::{line, slab};
 use crate::told::Refused;
-use anyhow::Result;
 use section::rows::{BracketRow, Majorant, Temperature};
 use section::types::Tolerance;
 use study::types::Study;

@@ -1,6 +1,6 @@
+use crate::fault::Result;
 use crate::plans::{line, slab};
 use crate::told::Changed;
-use anyhow::Result;
 use ground::ground::{Ground, free_cells};
 use ground::slab::Slab;
 use layers::layer::{LossLayer, PinLayer};

@@ -5,6 +5,7 @@
 mod desk;
 mod dice;
 mod exact;
+mod fault;
 mod floor;
 mod make;
 mod piles;
@@ -12,13 +13,14 @@ mod series;
 mod tally;
 mod trial;
 
+use fault::Result;
 use make::{listed, ring, slab};
 use series::Series;
 
-fn main(rt: HostRuntime) -> anyhow::Result<()> {
+fn main(rt: HostRuntime) -> Result<()> {
     let mut series = Series::new(rt.alloc());
-    println!(rt; "slab: {}", series.run(slab)?)?;
-    println!(rt; "ring: {}", series.run(ring)?)?;
-    println!(rt; "listed: {}", series.run(listed)?)?;
+    series.run(slab)?.print(&rt, "slab")?;
+    series.run(ring)?.print(&rt, "ring")?;
+    series.run(listed)?.print(&rt, "listed")?;
     Ok(())
 }

@@ -1,6 +1,6 @@
 use crate::dice::Dice;
+use crate::fault::Result;
 use crate::floor::Floor;
-use anyhow::Result;
 use ground::listed::Listed;
 use ground::ring::Ring;
 use ground::slab::Slab;

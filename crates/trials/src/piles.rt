@@ -1,10 +1,10 @@
 use crate::desk::Desk;
 use crate::dice::Dice;
+use crate::fault::{Result, found};
 use crate::floor::Floor;
 use crate::series::Series;
 use crate::tally::add_one;
 use crate::trial::Trial;
-use anyhow::Result;
 use ground::ground::Ground;
 use layers::layer::{LossLayer, PinLayer};
 use replay::replay::replay;
@@ -45,9 +45,9 @@ impl<G: Ground> Bench<G> {
         let before = self.brackets.clone()?;
         let events = if series.dice.one_in(20) {
             let mut short = series.brackets(before.len().saturating_sub(1))?;
-            replay(series.heap, &mut self.study, &mut short, calls)?
+            found(replay(series.heap, &mut self.study, &mut short, calls))?
         } else {
-            replay(series.heap, &mut self.study, &mut self.brackets, calls)?
+            found(replay(series.heap, &mut self.study, &mut self.brackets, calls))?
         };
         for event in events {
             self.trial.read(series, &event)?;
@@ -110,7 +110,7 @@ impl Series {
         let width = self.dice.width();
         let tolerance = Tolerance::new(width)?;
         let mut bench = Bench {
-            study: Study::new(self.heap, ground, tolerance)?,
+            study: found(Study::new(self.heap, ground, tolerance))?,
             brackets: self.brackets(cells)?,
             desk: Desk::new(self.heap, cells)?,
             trial: Trial::new(self.heap, floor, width)?,

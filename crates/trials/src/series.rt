@@ -1,7 +1,7 @@
 use crate::dice::Dice;
+use crate::fault::Result;
 use crate::floor::Floor;
 use crate::tally::Tally;
-use anyhow::Result;
 use ground::ground::Ground;
 use std::alloc::Global;
 use std::mem;

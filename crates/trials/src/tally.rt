@@ -1,4 +1,4 @@
-use std::fmt;
+use std::io;
 
 // What was done and found on one kind of ground.
 #[derive(Default, Drop)]
@@ -18,20 +18,18 @@ pub(crate) fn add_one(count: &mut usize) {
     *count = count.saturating_add(1);
 }
 
-impl fmt::Display for Tally {
-    fn fmt<W: fmt::Write>(&self, f: &mut fmt::Formatter<W>) -> fmt::Result {
-        writeln!(
-            f,
-            "{} studies, {} calls, {} refused, {} certificates accepted",
+impl Tally {
+    // A line at a time.
+    pub(crate) fn print(&self, rt: &impl Print, kind: &str) -> io::Result<()> {
+        println!(rt;
+            "{kind}: {} studies, {} calls, {} refused, {} certificates accepted",
             self.studies, self.calls, self.refused, self.certificates
         )?;
-        writeln!(
-            f,
+        println!(rt;
             "  {} brackets compared, {} passed over",
             self.compared, self.passed_over
         )?;
-        write!(
-            f,
+        println!(rt;
             "  outside: {}, widened: {}, wrong counts: {}",
             self.outside, self.widened, self.wrong
         )
