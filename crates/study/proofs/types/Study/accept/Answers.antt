@@ -1,7 +1,10 @@
-use Rattle.std.proofs.Common.{nat_abs, refl}
+use Rattle.std.proofs.Common.{◌≡◌, ℕ, nat_abs, refl, subst}
+use Rattle.refusal.specs.Refusals.{accepted, answer, unless_refused}
 use Rattle.section.specs.Plan.{Plan}
 use Rattle.measure.specs.Measures.{rest, margin}
 use Rattle.certificate.specs.Certifying.{certificate_check, written}
+use Rattle.certificate.specs.declared.basis.Basis.{Basis}
+use Rattle.study.specs.Calls.{basis_of}
 use Rattle.study.specs.Studies.{equations_of, standing_of}
 use Rattle.study.proofs.Checks.{accept_is}
 use Rattle.study.proofs.types.Study.accept.Goals as goal
@@ -13,11 +16,11 @@ returns g c =
     let us = c.args.temperatures.now in
     let ws = c.args.majorant.now in
     let bs = c.args.brackets.now in
-    let b = c.basis.result in
-    let told = accept_is p s.tolerance.width (certificate_check p b us ws bs) c.args.state (standing_of s) (rest p us, nat_abs (margin p ws)) c.in_ok-rest.rest c.in_ok-rest.margin c.count_open-self.result bs (written p b us ws bs) c.certify.new.brackets
-    (c.in_ok-rest.ensures.answer p c.rows.ensures) (c.certify.ensures.grid p c.rows.ensures) (c.count_open-self.ensures p c.rows-2.ensures) in
-    rw (← c.basis.ensures) (record {
-      answer = told.0;
-      grid = c.certify.ensures.grid p c.rows.ensures;
-      study = record { layer = refl; tolerance = refl; stands = told.1 };
-    })
+    let b = basis_of s.state in
+    let numbers : ℕ × ℕ = (rest p us, nat_abs (margin p ws)) in
+    let grid = subst (λ (j : Basis). c.certify.new.brackets ≡ unless_refused (certificate_check p j us ws bs) bs (written p j us ws bs)) c.basis.ensures (c.certify.ensures.grid p c.rows.ensures) in
+    let told = subst (λ (j : Basis). accepted (c.in_ok-rest.rest, c.in_ok-rest.margin) ≡ answer (certificate_check p j us ws bs) numbers) c.basis.ensures (c.in_ok-rest.ensures.answer p c.rows.ensures) in
+    let leaves =
+    accept_is p s.tolerance.width (certificate_check p b us ws bs) c.args.state (standing_of s) numbers c.in_ok-rest.rest c.in_ok-rest.margin c.count_open-self.result bs (written p b us ws bs) c.certify.new.brackets
+    told grid (c.count_open-self.ensures p c.rows-2.ensures) in
+    record { answer = leaves.0; grid = grid; study = record { layer = refl; tolerance = refl; stands = leaves.1 } }
