@@ -26,11 +26,12 @@ fn main(rt: HostRuntime) -> io::Result<()> {
     let input = BufReader::new(heap, rt.stdin())?;
     let mut output = BufWriter::new(heap, rt.stdout())?;
     let mut session = Session::new(heap);
+    let mut gained = Vec::new(heap);
     for (number, text) in (1..u64::MAX).zip(input.split(heap, b'\n')) {
         let text = text?;
         if let Some(line) = Line::read(heap, number, text.as_slice())? {
             // Written at once, and not at all where memory ends in the line.
-            let mut gained = Vec::new(heap);
+            gained.clear();
             answer(&mut session, &line, &mut gained)?;
             output.write_all(&gained)?;
         }

@@ -4,3 +4,4 @@ mod Keeping
 mod Nearness
 mod Places
 mod Rows
+mod Columns

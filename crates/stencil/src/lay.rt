@@ -1,11 +1,11 @@
-ghost use Rattle.std.specs.Prelude.{◌≡◌, ℕ, ◌+◌, ◌<◌, ◌≤◌, None, ◌+ℤ◌, unsigned_abs, slice_index_or, vec_len, vec_capacity};
+ghost use Rattle.std.specs.Prelude.{◌≡◌, ℕ, ◌+◌, ◌%◌, ◌<◌, ◌≤◌, None, ◌+ℤ◌, unsigned_abs, slice_index_or, vec_len, vec_capacity};
 ghost use Rattle.section.specs.Plan.{Plan, free, at, size};
 ghost use Rattle.stencil.specs.Laying.{Near, ArmsNear, AllNear, LaidOf, ChangedAt};
 ghost use Rattle.stencil.specs.Sides.{OnSides};
 ghost use Rattle.stencil.specs.Stencils.{Equation, RowOf, SidesOf, Stands, OnPlan};
 
 use crate::kept::{Kept, keep};
-use crate::side::{east, look_toward, north, south, west};
+use crate::side::{east, look_toward, next_column, north, south, west};
 use crate::sides::Sides;
 use crate::types::{Side, Stencil};
 use ground::ground::Ground;
@@ -33,28 +33,42 @@ fn source(own: FreeRecord, sides: Sides<Side>) -> i64
     )
 }
 
-fn look_around<G: Ground>(ground: &G, shape: Shape, index: usize, own: FreeRecord) -> Sides<Side>
+fn look_around<G: Ground>(
+    ground: &G,
+    shape: Shape,
+    index: usize,
+    column: usize,
+    own: FreeRecord,
+) -> Sides<Side>
     requires on { OnPlan (G.plan ground.now) index }
     requires wide { shape.wide ≡ (G.plan ground.now).wide }
+    requires column { column ≡ index % shape.wide }
     ensures sides { SidesOf (G.plan ground.now) index own result }
     ensures near { OnSides (λ s. Near (G.plan ground.now) index s.arm.cell) result }
 {
     Sides {
         north: look_toward(ground, index, north(shape, index), own.north),
-        west: look_toward(ground, index, west(shape, index), own.west),
-        east: look_toward(ground, index, east(shape, index), own.east),
+        west: look_toward(ground, index, west(shape, index, column), own.west),
+        east: look_toward(ground, index, east(shape, index, column), own.east),
         south: look_toward(ground, index, south(shape, index), own.south),
     }
 }
 
-fn equation<G: Ground>(ground: &G, shape: Shape, index: usize, own: FreeRecord) -> Stencil
+fn equation<G: Ground>(
+    ground: &G,
+    shape: Shape,
+    index: usize,
+    column: usize,
+    own: FreeRecord,
+) -> Stencil
     requires on { OnPlan (G.plan ground.now) index }
     requires wide { shape.wide ≡ (G.plan ground.now).wide }
+    requires column { column ≡ index % shape.wide }
     requires here { free own.north own.west own.east own.south own.loss own.heat ≡ at (G.plan ground.now) index }
     ensures equation { Equation (G.plan ground.now) index result }
     ensures near { OnSides (λ a. Near (G.plan ground.now) index a.cell) result.arms }
 {
-    let sides = look_around(ground, shape, index, own);
+    let sides = look_around(ground, shape, index, column, own);
     Stencil {
         arms: sides.map(|side| side.arm),
         diagonal: diagonal(own, sides),
@@ -62,15 +76,16 @@ fn equation<G: Ground>(ground: &G, shape: Shape, index: usize, own: FreeRecord) 
     }
 }
 
-fn row<G: Ground>(ground: &G, shape: Shape, index: usize) -> Option<Stencil>
+fn row<G: Ground>(ground: &G, shape: Shape, index: usize, column: usize) -> Option<Stencil>
     requires wide { shape.wide ≡ (G.plan ground.now).wide }
+    requires column { column ≡ index % shape.wide }
     requires few { size (G.plan ground.now) ≤ 4096 }
     requires near { index < 4096 }
     ensures row { RowOf (G.plan ground.now) index result }
     ensures near { ArmsNear (G.plan ground.now) index result }
 {
     match ground.record(index) {
-        Record::Free(own) => Some(equation(ground, shape, index, own)),
+        Record::Free(own) => Some(equation(ground, shape, index, column, own)),
         Record::Held(_) => None,
         Record::Void => None,
     }
@@ -84,8 +99,10 @@ fn lay_rows<G: Ground>(ground: &G, rows: &mut Vec<Option<Stencil>>)
 {
     let shape = ground.shape();
     rows.clear();
+    let mut column = 0;
     for index in 0..shape.cells() {
-        rows.push_reserved(row(ground, shape, index));
+        rows.push_reserved(row(ground, shape, index, column));
+        column = next_column(shape, index, column);
     }
 }
 
@@ -118,8 +135,10 @@ fn lay_window<G: Ground>(ground: &G, first: usize, end: usize, rows: &mut Vec<Op
     ensures capacity { vec_capacity rows.new ≡ vec_capacity rows.old }
 {
     let shape = ground.shape();
+    let mut column = first % shape.wide;
     for index in first..end {
-        rows[index] = row(ground, shape, index);
+        rows[index] = row(ground, shape, index, column);
+        column = next_column(shape, index, column);
     }
 }
 

@@ -8,6 +8,18 @@ use ground::ground::Ground;
 use number::weighed;
 use section::types::{Record, Shape};
 
+// The column of the next cell: counted on, since a division for each cell takes its time.
+pub(crate) fn next_column(shape: Shape, index: usize, column: usize) -> usize
+    requires { column ≡ index % shape.wide }
+    ensures { result ≡ (index + 1) % shape.wide }
+{
+    if column + 1 < shape.wide {
+        column + 1
+    } else {
+        0
+    }
+}
+
 // The neighbours of a cell, each if it lies on the plan.
 pub(crate) fn north(shape: Shape, index: usize) -> Option<usize>
     ensures { result ≡ (if nat_le shape.wide index then Some (index - shape.wide) else None) }
@@ -19,21 +31,19 @@ pub(crate) fn north(shape: Shape, index: usize) -> Option<usize>
     }
 }
 
-pub(crate) fn west(shape: Shape, index: usize) -> Option<usize>
+pub(crate) fn west(shape: Shape, index: usize, column: usize) -> Option<usize>
+    requires { column ≡ index % shape.wide }
     ensures { result ≡ (if nat_lt 0 (index % shape.wide) then Some (index - 1) else None) }
 {
-    if index % shape.wide > 0 {
-        Some(index - 1)
-    } else {
-        None
-    }
+    if column > 0 { Some(index - 1) } else { None }
 }
 
-pub(crate) fn east(shape: Shape, index: usize) -> Option<usize>
-    requires { index < 4096 }
+pub(crate) fn east(shape: Shape, index: usize, column: usize) -> Option<usize>
+    requires near { index < 4096 }
+    requires column { column ≡ index % shape.wide }
     ensures { result ≡ (if nat_lt (index % shape.wide + 1) shape.wide then Some (index + 1) else None) }
 {
-    if index % shape.wide + 1 < shape.wide {
+    if column + 1 < shape.wide {
         Some(index + 1)
     } else {
         None

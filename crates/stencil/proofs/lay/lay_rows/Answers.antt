@@ -14,4 +14,5 @@ loop-index-preserved g c =
       omega (arith, c.push_reserved.ensures.len, c.loop-index.invariant.0),
       c.push_reserved.ensures.capacity ∙ c.loop-index.invariant.1,
       subst Q (sym c.push_reserved.ensures.items) (pushed P (vec_items c.loop-index.rows) i c.row.result None (sym c.loop-index.rows.ok.0 ∙ c.loop-index.invariant.0) c.loop-index.invariant.2 (c.row.ensures.row, c.row.ensures.near)),
+      c.next_column-column.ensures,
     )
